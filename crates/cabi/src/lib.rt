@@ -1,0 +1,2 @@
+// The static library: every public call of the layers below, for C and Rust to link. include/apptbook.h is its header.
+pub mod days_calls;

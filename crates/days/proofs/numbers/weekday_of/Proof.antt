@@ -1,0 +1,19 @@
+-- `weekday_of` meets its contract by the weekday's formula.
+-- Assumes nothing.
+use native.Mathlib.Omega.{arith}
+use Rattle.days.specs.DayLaws.{weekday-formula}
+use borrow.Author.Needs.{needs}
+use Rattle.days.proofs.numbers.weekday_of.Statement.{statement}
+use Rattle.days.proofs.numbers.weekday_of.Tie as tie
+
+add-result : tie.Need-add-result
+add-result c = search needs
+
+add-result-2 : tie.Need-add-result-2
+add-result-2 c = search needs
+
+returns : tie.Need-returns
+returns c = omega (arith, weekday-formula (c .args .n))
+
+pub weekday-of-spec : {M : Type 1} → statement M
+weekday-of-spec = tie.close (tie.spec add-result add-result-2 returns)

@@ -1,0 +1,12 @@
+-- Days: the definitions in document 01's order, and their laws in files of the same name.
+pub mod Dates
+pub mod Days
+pub mod Facts
+pub mod Answers
+pub mod DateLaws
+pub mod DayLaws
+pub mod OrderLaws
+pub mod FactsLaws
+pub mod AnswerLaws
+pub mod Examples
+pub mod Table

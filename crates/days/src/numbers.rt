@@ -1,0 +1,90 @@
+// Day numbers: the day of a date, the date and the weekday of a day.
+ghost use mathlib.Core.Path.{_≡_};
+ghost use Prim.Native.Nat.{_≤_};
+ghost use Rattle.days.specs.Days.{dayNumber, dateOf, weekdayOf, lastDay};
+ghost use Rattle.days.specs.DateLaws.{Valid};
+ghost use Rattle.days.specs.Answers.{dayAnswer, dateAnswer, weekdayAnswer};
+use crate::answers::DateAnswer;
+use crate::answers::DayAnswer;
+use crate::answers::WeekdayAnswer;
+use crate::dates::is_real;
+use crate::search::month_of;
+use crate::table::table;
+use crate::types::CalendarDay;
+use crate::types::Date;
+use prelude::refusals::OUT_OF_RANGE;
+use prelude::refusals::Refusal;
+
+// The day of a real date.
+fn day_of(d: Date) -> u16
+    requires { ⌜ Valid d ⌝ }
+    ensures { λ r. ⌜ r ≡ dayNumber d ⌝ }
+{
+    let t = table();
+    let year = d.year - 1980;
+    let month = d.month - 1;
+    let day = d.day - 1;
+    let i = (year * 12 + month) as usize;
+    t[i] + day
+}
+
+// The Calendar day of a date.
+pub fn day_of_date(d: Date) -> DayAnswer
+    ensures { λ r. ⌜ r ≡ dayAnswer d ⌝ }
+{
+    if is_real(d) {
+        return DayAnswer::Day(CalendarDay(day_of(d)));
+    }
+    DayAnswer::Refused(Refusal {
+        number: OUT_OF_RANGE,
+        place: 0,
+    })
+}
+
+// The date of a day in range: its month by the table, and the days from the month's start.
+pub fn date_of(n: u16) -> Date
+    requires { ⌜ n ≤ lastDay ⌝ }
+    ensures { λ r. ⌜ r ≡ dateOf n ⌝ }
+{
+    let t = table();
+    let i = month_of(&t, n);
+    Date {
+        year: (1980 + i / 12) as u16,
+        month: (i % 12 + 1) as u16,
+        day: n - t[i] + 1,
+    }
+}
+
+// The date of a Calendar day.
+pub fn date_of_day(n: CalendarDay) -> DateAnswer
+    ensures { λ r. ⌜ r ≡ dateAnswer n ⌝ }
+{
+    if 43829 < n.0 {
+        return DateAnswer::Refused(Refusal {
+            number: OUT_OF_RANGE,
+            place: 0,
+        });
+    }
+    DateAnswer::Date(date_of(n.0))
+}
+
+// The weekday of a day in range, 1 = Sunday to 7 = Saturday.
+pub fn weekday_of(n: u16) -> u16
+    requires { ⌜ n ≤ lastDay ⌝ }
+    ensures { λ r. ⌜ r ≡ weekdayOf n ⌝ }
+{
+    (n + 2) % 7 + 1
+}
+
+// The weekday of a Calendar day.
+pub fn weekday_of_day(n: CalendarDay) -> WeekdayAnswer
+    ensures { λ r. ⌜ r ≡ weekdayAnswer n ⌝ }
+{
+    if 43829 < n.0 {
+        return WeekdayAnswer::Refused(Refusal {
+            number: OUT_OF_RANGE,
+            place: 0,
+        });
+    }
+    WeekdayAnswer::Weekday(weekday_of(n.0))
+}

@@ -1,0 +1,39 @@
+// Calendar days from Psion days and back, document 01: Psion counts ten years off.
+ghost use mathlib.Core.Path.{_≡_};
+ghost use Rattle.days.specs.Answers.{calendarOfPsion, psionOfCalendar};
+use crate::answers::DayAnswer;
+use crate::answers::PsionAnswer;
+use crate::types::CalendarDay;
+use crate::types::PsionDay;
+use prelude::refusals::OUT_OF_RANGE;
+use prelude::refusals::Refusal;
+
+pub fn calendar_of_psion(p: PsionDay) -> DayAnswer
+    ensures { λ r. ⌜ r ≡ calendarOfPsion p ⌝ }
+{
+    if p.0 < 3652 {
+        return DayAnswer::Refused(Refusal {
+            number: OUT_OF_RANGE,
+            place: 0,
+        });
+    }
+    if 29219 < p.0 {
+        return DayAnswer::Refused(Refusal {
+            number: OUT_OF_RANGE,
+            place: 0,
+        });
+    }
+    DayAnswer::Day(CalendarDay(p.0 - 3652))
+}
+
+pub fn psion_of_calendar(n: CalendarDay) -> PsionAnswer
+    ensures { λ r. ⌜ r ≡ psionOfCalendar n ⌝ }
+{
+    if 25567 < n.0 {
+        return PsionAnswer::Refused(Refusal {
+            number: OUT_OF_RANGE,
+            place: 0,
+        });
+    }
+    PsionAnswer::Day(PsionDay(n.0 + 3652))
+}

@@ -1,0 +1,126 @@
+-- The bytes of a list by place, 0 past its end, and whole numbers of two bytes: low byte first (`word`, `le16`) and high byte first (`wordHigh`, `be16`).
+-- Assumes nothing.
+use Prim.Native.Nat.{ℕ, zero, suc, _+_, _*_, _/_, _%_, _<_, _≤_}
+use mathlib.Core.Path.{_≡_, refl, sym}
+use mathlib.Core.List.{List, [], _∷_, _++_}
+use native.Mathlib.Omega.{arith}
+use native.Mathlib.Nat.{add-assoc}
+use lib.ListN.{length, getD, take, drop, List·getD-eq-default}
+use lib.Seq.{getD-drop, getD-append-add}
+
+-- the byte at a place
+abbrev pub byte : List ℕ → ℕ → ℕ
+byte f p = getD f p 0
+
+-- the number of two bytes at a place, low byte first
+abbrev pub word : List ℕ → ℕ → ℕ
+word f p = byte f p + 256 * byte f (p + 1)
+
+-- the same, high byte first
+abbrev pub wordHigh : List ℕ → ℕ → ℕ
+wordHigh f p = 256 * byte f p + byte f (p + 1)
+
+-- the n bytes from a, as many of them as there are
+abbrev pub part : List ℕ → ℕ → ℕ → List ℕ
+part s a n = take n (drop a s)
+
+-- a number as two bytes, low byte first
+unfoldable pub le16 : ℕ → List ℕ
+le16 n = n % 256 ∷ (n / 256 % 256 ∷ [])
+
+-- the same, high byte first
+unfoldable pub be16 : ℕ → List ℕ
+be16 n = n / 256 % 256 ∷ (n % 256 ∷ [])
+
+-- each element is below 256
+abbrev pub Bytes : List ℕ → Type 0
+Bytes [] = Unit {0}
+Bytes (x ∷ xs) = (x < 256) × Bytes xs
+
+pub length-le16 : (n : ℕ) → length (le16 n) ≡ 2
+unfolding le16
+length-le16 n = refl
+
+pub length-be16 : (n : ℕ) → length (be16 n) ≡ 2
+unfolding be16
+length-be16 n = refl
+
+pub le16-bytes : (n : ℕ) → Bytes (le16 n)
+unfolding le16
+le16-bytes n = (omega arith, (omega arith, tt))
+
+pub be16-bytes : (n : ℕ) → Bytes (be16 n)
+unfolding be16
+be16-bytes n = (omega arith, (omega arith, tt))
+
+-- What was written is read back.
+pub word-le16 : (n : ℕ) (r : List ℕ) → n < 65536 → word (le16 n ++ r) 0 ≡ n
+unfolding le16
+word-le16 n r h = omega arith
+
+pub word-high-be16 : (n : ℕ) (r : List ℕ) → n < 65536 → wordHigh (be16 n ++ r) 0 ≡ n
+unfolding be16
+word-high-be16 n r h = omega arith
+
+-- What was read is written again: the two bytes of a number that is made of two.
+split : (n low high : ℕ) → n ≡ low + 256 * high → low < 256 → high < 256 → (n % 256 ≡ low) × (n / 256 % 256 ≡ high)
+split n low high e h k = (omega arith, omega arith)
+
+pub le16-join : (a b : ℕ) → a < 256 → b < 256 → le16 (a + 256 * b) ≡ a ∷ (b ∷ [])
+unfolding le16
+le16-join a b h k =
+    let e = split (a + 256 * b) a b refl h k in
+    cc
+
+pub be16-join : (a b : ℕ) → a < 256 → b < 256 → be16 (256 * a + b) ≡ a ∷ (b ∷ [])
+unfolding be16
+be16-join a b h k =
+    let e = split (256 * a + b) b a (omega arith) k h in
+    cc
+
+-- 0 past the end
+pub byte-past : (s : List ℕ) (i : ℕ) → length s ≤ i → byte s i ≡ 0
+byte-past s i h = List·getD-eq-default s 0 h
+
+pub word-past : (s : List ℕ) (i : ℕ) → length s ≤ i → (word s i ≡ 0) × (wordHigh s i ≡ 0)
+word-past s i h =
+    let e = byte-past s i h in
+    let k = byte-past s (i + 1) (omega arith) in
+    (omega arith, omega arith)
+
+-- Along a list: in what is left of it from a on, and in the second of two.
+pub byte-drop : (s : List ℕ) (a i : ℕ) → byte (drop a s) i ≡ byte s (a + i)
+byte-drop s a i = getD-drop a s i 0
+
+pub byte-append : (xs ys : List ℕ) (i : ℕ) → byte (xs ++ ys) (length xs + i) ≡ byte ys i
+byte-append xs ys i = getD-append-add xs ys i 0
+
+-- Where t stands in s from a on, so does what h makes of two bytes.
+moved : (h : ℕ → ℕ → ℕ) (s t : List ℕ) (a : ℕ) → ((i : ℕ) → byte s (a + i) ≡ byte t i) → (i : ℕ) → h (byte s (a + i)) (byte s (a + i + 1)) ≡ h (byte t i) (byte t (i + 1))
+moved h s t a e i = rw (add-assoc a i 1, e i, e (i + 1))
+
+pub word-drop : (s : List ℕ) (a i : ℕ) → word (drop a s) i ≡ word s (a + i)
+word-drop s a i = sym (moved (λ x y. x + 256 * y) s (drop a s) a (λ k. sym (byte-drop s a k)) i)
+
+pub word-high-drop : (s : List ℕ) (a i : ℕ) → wordHigh (drop a s) i ≡ wordHigh s (a + i)
+word-high-drop s a i = sym (moved (λ x y. 256 * x + y) s (drop a s) a (λ k. sym (byte-drop s a k)) i)
+
+pub word-append : (xs ys : List ℕ) (i : ℕ) → word (xs ++ ys) (length xs + i) ≡ word ys i
+word-append xs ys i = moved (λ x y. x + 256 * y) (xs ++ ys) ys (length xs) (byte-append xs ys) i
+
+pub word-high-append : (xs ys : List ℕ) (i : ℕ) → wordHigh (xs ++ ys) (length xs + i) ≡ wordHigh ys i
+word-high-append xs ys i = moved (λ x y. 256 * x + y) (xs ++ ys) ys (length xs) (byte-append xs ys) i
+
+-- `Bytes`, by places and of two lists.
+pub bytes-at : (s : List ℕ) → Bytes s → (i : ℕ) → byte s i < 256
+bytes-at [] h i = omega arith
+bytes-at (x ∷ xs) h zero = h .0
+bytes-at (x ∷ xs) h (suc i) = bytes-at xs (h .1) i
+
+pub at-bytes : (s : List ℕ) → ((i : ℕ) → byte s i < 256) → Bytes s
+at-bytes [] h = tt
+at-bytes (x ∷ xs) h = (h zero, at-bytes xs (λ i. h (suc i)))
+
+pub bytes-append : (xs ys : List ℕ) → Bytes xs → Bytes ys → Bytes (xs ++ ys)
+bytes-append [] ys h k = k
+bytes-append (x ∷ xs) ys h k = (h .0, bytes-append xs ys (h .1) k)

@@ -1,0 +1,203 @@
+//! `cargo run --release --bin bench` prints what a call costs: the proved library beside the plain
+//! reference and, where there is one, the fastest formula known.
+//!
+//! None of these is inlined; the row "an empty call" is what the loop and a call cost by themselves.
+//! Instructions are counted by callgrind, over this program run again with and without the calls.
+
+use reference::civil;
+use reference::days::{self as plain, Date, FIRST_PSION_DAY, LAST_DAY, LAST_PSION_DAY};
+use reference::ffi::days as proved;
+use reference::rng::Rng;
+use std::env;
+use std::hint::black_box;
+use std::process::Command;
+use std::time::Instant;
+
+const COLUMNS: [&str; 3] = ["proved", "reference", "formula"];
+const PASSES: usize = 30;
+
+/// Makes as many calls as it is told, at most the row's number.
+type Run<'a> = Box<dyn Fn(usize) + 'a>;
+
+struct Row<'a> {
+    name: &'static str,
+    calls: usize,
+    /// In the order of `COLUMNS`.
+    runs: [Option<Run<'a>>; 3],
+}
+
+struct Days {
+    days: Vec<u16>,
+    dates: Vec<Date>,
+    psion_days: Vec<u16>,
+    /// The Calendar days of `psion_days`.
+    same_days: Vec<u16>,
+}
+
+impl Days {
+    fn random() -> Self {
+        let mut rng = Rng::new(1);
+        let mut random =
+            |count: u16| -> Vec<u16> { (0..LAST_DAY).map(|_| rng.below(u64::from(count)) as u16).collect() };
+        let days = random(LAST_DAY + 1);
+        let dates = days.iter().map(|&day| civil::date_of_day(day).unwrap()).collect();
+        let same_days = random(LAST_PSION_DAY - FIRST_PSION_DAY + 1);
+        let psion_days = same_days.iter().map(|day| day + FIRST_PSION_DAY).collect();
+        Days { days, dates, psion_days, same_days }
+    }
+}
+
+/// The function behind a pointer that the compiler cannot see through.
+fn hidden<I, O>(function: fn(I) -> O) -> fn(I) -> O {
+    black_box(function)
+}
+
+fn over<'a, I: Copy, O>(inputs: &'a [I], call: impl Fn(I) -> O + 'a) -> Option<Run<'a>> {
+    Some(Box::new(move |count| {
+        for &input in &inputs[..count] {
+            black_box(&call(input));
+        }
+    }))
+}
+
+fn stepping<'a, F: Copy + 'a>(first: F, next: impl Fn(F) -> F + 'a) -> Option<Run<'a>> {
+    Some(Box::new(move |count| {
+        black_box((0..count).fold(first, |facts, _| next(facts)));
+    }))
+}
+
+fn day_rows(inputs: &Days) -> Vec<Row<'_>> {
+    let Days { days, dates, .. } = inputs;
+    let row = |name, runs| Row { name, calls: days.len(), runs };
+    vec![
+        row("an empty call", [None, over(days, hidden(|_| ())), None]),
+        row(
+            "date of a day",
+            [
+                over(days, |day| proved::date_of_day(day)),
+                over(days, hidden(plain::date_of_day)),
+                over(days, hidden(civil::date_of_day)),
+            ],
+        ),
+        row(
+            "day of a date",
+            [
+                over(dates, |date| proved::day_of_date(date.year, date.month, date.day)),
+                over(dates, hidden(plain::day_of_date)),
+                over(dates, hidden(civil::day_of_date)),
+            ],
+        ),
+        row(
+            "facts of a day",
+            [
+                over(days, |day| proved::day_facts(day)),
+                over(days, hidden(plain::day_facts)),
+                over(days, hidden(civil::day_facts)),
+            ],
+        ),
+    ]
+}
+
+fn small_day_rows(inputs: &Days) -> Vec<Row<'_>> {
+    let Days { days, dates, psion_days, same_days } = inputs;
+    let row = |name, proved, plain| Row { name, calls: days.len(), runs: [proved, plain, None] };
+    let plain_next = hidden(plain::next_day);
+    vec![
+        row(
+            "next day, 43,829 steps",
+            stepping(proved::day_facts(0), |facts| proved::next_day(facts)),
+            stepping(plain::day_facts(0), move |facts| plain_next(facts?)),
+        ),
+        row("weekday", over(days, |day| proved::weekday(day)), over(days, hidden(plain::weekday))),
+        row(
+            "is a real date",
+            over(dates, |date| proved::is_real_date(date.year, date.month, date.day)),
+            over(dates, hidden(plain::is_real_date)),
+        ),
+        row(
+            "month length",
+            over(dates, |date| proved::month_length(date.year, date.month)),
+            over(dates, hidden(|date: Date| plain::month_length(date.year, date.month))),
+        ),
+        row(
+            "Calendar day of Psion's",
+            over(psion_days, |day| proved::calendar_of_psion(day)),
+            over(psion_days, hidden(plain::calendar_of_psion)),
+        ),
+        row(
+            "Psion day of Calendar's",
+            over(same_days, |day| proved::psion_of_calendar(day)),
+            over(same_days, hidden(plain::psion_of_calendar)),
+        ),
+    ]
+}
+
+/// All instructions of a process that makes so many calls; None where there is no valgrind.
+fn instructions(row: usize, column: usize, calls: usize) -> Option<f64> {
+    let output = Command::new("valgrind")
+        .args(["--tool=callgrind", "--callgrind-out-file=/dev/null"])
+        .arg(env::current_exe().ok()?)
+        .args([row, column, calls].map(|number| number.to_string()))
+        .output()
+        .ok()?;
+    let report = String::from_utf8_lossy(&output.stderr);
+    report.lines().find_map(|line| line.split_once("Collected :")?.1.trim().parse().ok())
+}
+
+/// The quickest of some passes: the others were disturbed.
+fn nanoseconds(run: &Run, calls: usize) -> f64 {
+    let pass = |_| {
+        let start = Instant::now();
+        run(calls);
+        start.elapsed().as_nanos() as f64 / calls as f64
+    };
+    (0..PASSES).map(pass).fold(f64::INFINITY, f64::min)
+}
+
+fn line(name: &str, costs: [[Option<f64>; 3]; 2]) {
+    print!("{name:<24}");
+    for cost in costs {
+        let ratio = cost[0].zip(cost[1]).map(|(proved, plain)| proved / plain);
+        for (value, digits) in cost.into_iter().map(|value| (value, 1)).chain([(ratio, 2)]) {
+            match value {
+                Some(value) => print!("{value:>10.digits$}"),
+                None => print!("{:>10}", "-"),
+            }
+        }
+        print!("   ");
+    }
+    println!();
+}
+
+fn print_table(rows: &[Row]) {
+    println!("{:<24}{:^40}   {:^40}", "", "instructions per call", "nanoseconds per call");
+    let heads = COLUMNS.map(|column| format!("{column:>10}")).concat() + "     ratio   ";
+    println!("{:<24}{heads}{heads}", "call");
+    let idle = instructions(0, 1, 0);
+    for (number, row) in rows.iter().enumerate() {
+        let each = |column: usize| {
+            let run = row.runs[column].as_ref()?;
+            let counted = idle
+                .and_then(|idle| Some((instructions(number, column, row.calls)? - idle) / row.calls as f64));
+            Some((counted, nanoseconds(run, row.calls)))
+        };
+        let cells = [0, 1, 2].map(each);
+        line(row.name, [cells.map(|cell| cell?.0), cells.map(|cell| Some(cell?.1))]);
+    }
+    println!("ratio: proved / reference; the goal is at or below 1");
+    if idle.is_none() {
+        println!("instructions not counted: valgrind is not here or failed");
+    }
+}
+
+/// With no word: the table. With three: the row's and the column's number and a count of calls to make.
+fn main() {
+    let days = Days::random();
+    let rows: Vec<Row> = day_rows(&days).into_iter().chain(small_day_rows(&days)).collect();
+    let numbers: Vec<usize> = env::args().skip(1).map(|word| word.parse().expect("a number")).collect();
+    match numbers[..] {
+        [] => print_table(&rows),
+        [row, column, calls] => rows[row].runs[column].as_ref().expect("a call that is there")(calls),
+        _ => panic!("usage: bench [ROW COLUMN CALLS]"),
+    }
+}

@@ -1,0 +1,100 @@
+//! Day arithmetic of the proved library.
+
+use crate::days::{Date, Facts};
+use crate::refusal::Refusal;
+
+// Numbers and structs of numbers go over by value, so every call is safe.
+unsafe extern "C" {
+    #[link_name = "apptbook_month_length"]
+    pub safe fn month_length(year: u16, month: u16) -> LengthAnswer;
+    #[link_name = "apptbook_is_real_date"]
+    pub safe fn is_real_date(year: u16, month: u16, day: u16) -> bool;
+    #[link_name = "apptbook_day_of_date"]
+    pub safe fn day_of_date(year: u16, month: u16, day: u16) -> DayAnswer;
+    #[link_name = "apptbook_date_of_day"]
+    pub safe fn date_of_day(day: u16) -> DateAnswer;
+    #[link_name = "apptbook_weekday"]
+    pub safe fn weekday(day: u16) -> WeekdayAnswer;
+    #[link_name = "apptbook_day_facts"]
+    pub safe fn day_facts(day: u16) -> FactsAnswer;
+    #[link_name = "apptbook_next_day"]
+    pub safe fn next_day(facts: FactsAnswer) -> FactsAnswer;
+    #[link_name = "apptbook_calendar_of_psion"]
+    pub safe fn calendar_of_psion(day: u16) -> DayAnswer;
+    #[link_name = "apptbook_psion_of_calendar"]
+    pub safe fn psion_of_calendar(day: u16) -> DayAnswer;
+}
+
+#[repr(C)]
+#[derive(Clone, Copy, Debug, Default, PartialEq, Eq)]
+pub struct LengthAnswer {
+    pub number: u32,
+    pub place: usize,
+    pub length: u16,
+}
+
+#[repr(C)]
+#[derive(Clone, Copy, Debug, Default, PartialEq, Eq)]
+pub struct DayAnswer {
+    pub number: u32,
+    pub place: usize,
+    pub day: u16,
+}
+
+#[repr(C)]
+#[derive(Clone, Copy, Debug, Default, PartialEq, Eq)]
+pub struct DateAnswer {
+    pub number: u32,
+    pub place: usize,
+    pub year: u16,
+    pub month: u16,
+    pub day: u16,
+}
+
+#[repr(C)]
+#[derive(Clone, Copy, Debug, Default, PartialEq, Eq)]
+pub struct WeekdayAnswer {
+    pub number: u32,
+    pub place: usize,
+    pub weekday: u16,
+}
+
+#[repr(C)]
+#[derive(Clone, Copy, Debug, Default, PartialEq, Eq)]
+pub struct FactsAnswer {
+    pub number: u32,
+    pub place: usize,
+    pub calendar_day: u16,
+    pub year: u16,
+    pub month: u16,
+    pub day: u16,
+    pub weekday: u16,
+    pub month_length: u16,
+}
+
+/// `From<Result<$value, Refusal>>`: the value's fields, or number and place and 0 in all else.
+macro_rules! answer_of_result {
+    ($answer:ident, $value:ty, $pattern:pat => { $($field:ident: $part:expr),* }) => {
+        impl From<Result<$value, Refusal>> for $answer {
+            fn from(result: Result<$value, Refusal>) -> Self {
+                match result {
+                    Ok($pattern) => $answer { number: 0, place: 0, $($field: $part),* },
+                    Err(Refusal { number, place }) => $answer { number, place, ..Default::default() },
+                }
+            }
+        }
+    };
+}
+
+answer_of_result!(LengthAnswer, u16, length => { length: length });
+answer_of_result!(DayAnswer, u16, day => { day: day });
+answer_of_result!(DateAnswer, Date, date => { year: date.year, month: date.month, day: date.day });
+answer_of_result!(WeekdayAnswer, u16, weekday => { weekday: weekday });
+answer_of_result!(FactsAnswer, Facts, facts => {
+    calendar_day: facts.calendar_day,
+    year: facts.date.year,
+    month: facts.date.month,
+    day: facts.date.day,
+    weekday: facts.weekday,
+    month_length: facts.month_length
+});
