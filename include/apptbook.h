@@ -2,12 +2,13 @@
  * apptbook: the HP 95LX Appointment Book, its days, and the Windows Calendar file.
  *
  * C header of the proved library libcabi.a (x86-64). No call keeps anything between calls, allocates
- * memory or has a precondition: every argument gets an answer.
+ * memory or has a precondition: every argument gets an answer. A file is lent as a pointer and a number of
+ * bytes; so many must be there, and whatever they are gets an answer too. A call reads them and changes none.
  *
  * An answer is a struct by value. It begins with
  *   number   APPTBOOK_ACCEPTED (0), or the number of the refusal;
  *   place    the byte of the file that the refusal is about, 0 where no file byte is meant.
- * On a refusal all its other fields are 0.
+ * On a refusal all its other fields are 0 or false.
  */
 #ifndef APPTBOOK_H
 #define APPTBOOK_H
@@ -129,6 +130,100 @@ apptbook_day_answer apptbook_calendar_of_psion(uint16_t day);
 
 /* The Psion day of a Calendar day. Refused over 25,567 (31 December 2049). */
 apptbook_day_answer apptbook_psion_of_calendar(uint16_t day);
+
+/*
+ * The book.
+ *
+ * Each call judges the whole file first and refuses it with APPTBOOK_BOOK_TOO_LONG (1) to
+ * APPTBOOK_AFTER_END (9). Of several faults the first in this order counts: 1, 2, 3; then record by
+ * record 4 for the three head bytes, 5, 4 for the body, 6, 7, 8; after the end record 9. The place is 0
+ * for 1 and 2, 5 for 3, the record's type byte for 4 to 8, and for 9 the first byte after the end
+ * record. A file without an end record is 4 at the place behind its last record.
+ *
+ * Only then comes APPTBOOK_NO_SUCH_NUMBER (10), with place 0.
+ *
+ * Records count from 0, to-dos too, the end record not. Lines of a note count from 0.
+ * Places and lengths of texts, notes and lines are in bytes of the file that was lent; texts and lines
+ * hold no zero byte and end without one.
+ * Minutes count from midnight, 0 to 1,439. Years are full years (1993). Dates are real, 1980 to 2099.
+ */
+
+/* The kinds of records: their type bytes. */
+enum {
+    APPTBOOK_DATED = 1,
+    APPTBOOK_WEEKLY = 2,
+    APPTBOOK_MONTHLY_BY_DATE = 3,
+    APPTBOOK_MONTHLY_BY_POSITION = 4,
+    APPTBOOK_YEARLY = 5,
+    APPTBOOK_TO_DO = 6
+};
+
+typedef struct apptbook_book_answer {
+    uint32_t number;
+    size_t place;
+    size_t records;       /* how many there are */
+    uint16_t start;       /* display start, a minute */
+    uint16_t granularity; /* of the display, in minutes, 1 to 720 */
+    uint16_t lead;        /* default lead time in minutes, 0 to 30 */
+    bool alarm;           /* alarm on */
+    bool carry_forward;   /* to-dos carry forward by default */
+} apptbook_book_answer;
+
+/* One record. Fields that its kind does not have are 0 or false. */
+typedef struct apptbook_record_answer {
+    uint32_t number;
+    size_t place;
+    size_t at;                /* place of the record: its type byte */
+    size_t text_at;           /* place of the text */
+    size_t text_length;       /* 0 to 27 */
+    size_t note_at;           /* place of the note, text_at + text_length also when there is none */
+    size_t note_length;       /* 0 to 440, zero bytes included */
+    uint16_t kind;            /* APPTBOOK_DATED to APPTBOOK_TO_DO */
+    uint16_t weekday;         /* weekly, monthly by position: 1 = Sunday to 7 = Saturday */
+    uint16_t week;            /* monthly by position: 1 to 5 */
+    uint16_t month;           /* yearly: 1 to 12 */
+    uint16_t day;             /* monthly by date, yearly: day of the month, 1 to 31 */
+    uint16_t priority;        /* to-do: 1 to 9 */
+    uint16_t start;           /* all but to-dos: start minute */
+    uint16_t end;             /* all but to-dos: end minute, not before the start */
+    uint16_t lead;            /* all but to-dos: lead time in minutes, 0 to 30 */
+    uint16_t first_year;      /* dated: its date; to-do: start date; others: first date of the span */
+    uint16_t first_month;
+    uint16_t first_day;
+    uint16_t last_year;       /* weekly to yearly: last date of the span, not before the first */
+    uint16_t last_month;
+    uint16_t last_day;
+    uint16_t check_off_year;  /* to-do that is checked off: when that was done */
+    uint16_t check_off_month;
+    uint16_t check_off_day;
+    bool flag;                /* alarm on; to-do: carry forward */
+    bool checked_off;         /* to-do: checked off */
+} apptbook_record_answer;
+
+typedef struct apptbook_lines_answer {
+    uint32_t number;
+    size_t place;
+    size_t lines; /* 0 to 11 */
+} apptbook_lines_answer;
+
+typedef struct apptbook_line_answer {
+    uint32_t number;
+    size_t place;
+    size_t at;     /* place of the line */
+    size_t length; /* 0 to 39, without the zero byte that may end it */
+} apptbook_line_answer;
+
+/* The settings and the number of records. */
+apptbook_book_answer apptbook_read_book(const uint8_t *file, size_t len);
+
+/* The record of that number. Refused with 10 when there are not so many. */
+apptbook_record_answer apptbook_record(const uint8_t *file, size_t len, size_t record);
+
+/* How many lines the record's note has. Refused with 10 when there is no such record. */
+apptbook_lines_answer apptbook_note_lines(const uint8_t *file, size_t len, size_t record);
+
+/* A line of the record's note. Refused with 10 when there is no such record or no such line. */
+apptbook_line_answer apptbook_note_line(const uint8_t *file, size_t len, size_t record, size_t line);
 
 #ifdef __cplusplus
 }

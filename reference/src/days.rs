@@ -11,7 +11,7 @@ pub const LAST_DAY: u16 = 43_829;
 pub const FIRST_PSION_DAY: u16 = 3_652;
 pub const LAST_PSION_DAY: u16 = 29_219;
 
-#[derive(Clone, Copy, Debug, PartialEq, Eq)]
+#[derive(Clone, Copy, Debug, PartialEq, Eq, PartialOrd, Ord)]
 pub struct Date {
     pub year: u16,
     pub month: u16,

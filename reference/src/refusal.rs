@@ -7,5 +7,8 @@ pub struct Refusal {
     pub place: usize,
 }
 
+/// 10: no record, line, descriptor or appointment of that number.
+pub const NO_SUCH_NUMBER: Refusal = Refusal { number: 10, place: 0 };
+
 /// 11: day, date or span handed over outside its range.
 pub const OUT_OF_RANGE: Refusal = Refusal { number: 11, place: 0 };

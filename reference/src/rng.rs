@@ -1,6 +1,7 @@
 //! A small deterministic generator (SplitMix64), so that any failure can be run again.
 
 use std::env;
+use std::ops::RangeInclusive;
 
 const DEFAULT_SEED: u64 = 19_930_315;
 
@@ -39,5 +40,20 @@ impl Rng {
     /// A number from 0 to `bound` - 1, near enough to evenly.
     pub fn below(&mut self, bound: u64) -> u64 {
         self.u64() % bound
+    }
+    pub fn within(&mut self, range: RangeInclusive<usize>) -> usize {
+        range.start() + self.below((range.end() - range.start() + 1) as u64) as usize
+    }
+
+    pub fn one_in(&mut self, count: u64) -> bool {
+        self.below(count) == 0
+    }
+
+    pub fn pick<T: Copy>(&mut self, items: &[T]) -> T {
+        items[self.below(items.len() as u64) as usize]
+    }
+
+    pub fn bytes(&mut self, count: usize) -> Vec<u8> {
+        (0..count).map(|_| self.u8()).collect()
     }
 }

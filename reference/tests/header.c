@@ -1,4 +1,4 @@
-/* Calls everything that include/apptbook.h declares; header.rs knows what it prints. */
+/* Calls everything that include/apptbook.h declares about days; header.rs knows what it prints. */
 #include "apptbook.h"
 
 #include <stdio.h>

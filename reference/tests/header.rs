@@ -33,16 +33,16 @@ calendar_of_psion 11 0 0
 psion_of_calendar 0 0 29219
 ";
 
-/// Compiles and runs `header.c` by `compiler`.
-fn run(compiler: &str, language: &[&str]) -> String {
+/// Compiles and runs `source` by `compiler`.
+fn run(source: &str, compiler: &str, language: &[&str]) -> String {
     let here = Path::new(env!("CARGO_MANIFEST_DIR"));
-    let program = Path::new(env!("CARGO_TARGET_TMPDIR")).join(format!("header-{compiler}"));
+    let program = Path::new(env!("CARGO_TARGET_TMPDIR")).join(format!("{source}-{compiler}"));
     succeed(
         Command::new(compiler)
             .args(language)
             .args(["-pedantic", "-Wall", "-Wextra", "-Werror", "-I"])
             .arg(here.join("../include"))
-            .arg(here.join("tests/header.c"))
+            .arg(here.join("tests").join(source))
             .args(["-x", "none", env!("APPTBOOK_ARCHIVE"), "-o"])
             .arg(&program),
     );
@@ -55,16 +55,63 @@ fn succeed(command: &mut Command) -> Output {
     output
 }
 
+fn in_c99(source: &str) -> String {
+    run(source, "cc", &["-std=c99"])
+}
+
+/// None where there is no C++ compiler.
+fn in_cpp(source: &str) -> Option<String> {
+    if Command::new("c++").arg("--version").output().is_err() {
+        println!("not tried: there is no c++ here");
+        return None;
+    }
+    Some(run(source, "c++", &["-std=c++11", "-x", "c++"]))
+}
+
 #[test]
 fn the_header_works_in_c99() {
-    assert_eq!(run("cc", &["-std=c99"]), expected());
+    assert_eq!(in_c99("header.c"), expected());
 }
 
 #[test]
 fn the_header_works_in_cpp() {
-    if Command::new("c++").arg("--version").output().is_err() {
-        println!("not tried: there is no c++ here");
-        return;
+    assert_eq!(in_cpp("header.c").unwrap_or(expected()), expected());
+}
+
+mod book {
+    use super::{in_c99, in_cpp};
+    use reference::ffi::book::{BookAnswer, LineAnswer, LinesAnswer, RecordAnswer};
+
+    fn expected() -> String {
+        let sizes = [
+            size_of::<BookAnswer>(),
+            size_of::<RecordAnswer>(),
+            size_of::<LinesAnswer>(),
+            size_of::<LineAnswer>(),
+        ];
+        format!("sizes {}\n{CALLS}", sizes.map(|size| size.to_string()).join(" "))
     }
-    assert_eq!(run("c++", &["-std=c++11", "-x", "c++"]), expected());
+
+    const CALLS: &str = "\
+kinds 1 2 3 4 5 6
+read_book 0 0 1 480 30 5 1 0
+read_book 4 12 0 0 0 0 0 0
+record 0 0 at 12 text 27 3 note 30 6 kind 1 rule 0 0 0 0 0 times 600 660 5
+  1993-3-15 0-0-0 0-0-0 flags 1 0 Dep
+record 10 0 at 0 text 0 0 note 0 0 kind 0 rule 0 0 0 0 0 times 0 0 0
+  0-0-0 0-0-0 0-0-0 flags 0 0\u{20}
+note_lines 0 0 2
+note_line 0 0 34 2 me
+note_line 10 0 0 0\u{20}
+";
+
+    #[test]
+    fn the_header_works_in_c99() {
+        assert_eq!(in_c99("book.c"), expected());
+    }
+
+    #[test]
+    fn the_header_works_in_cpp() {
+        assert_eq!(in_cpp("book.c").unwrap_or(expected()), expected());
+    }
 }

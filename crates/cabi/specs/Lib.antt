@@ -1,2 +1,3 @@
 -- What crosses to C, one file a topic: for each answer its number, its place and its values.
 pub mod DaysCalls
+pub mod BookCalls

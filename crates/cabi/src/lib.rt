@@ -1,2 +1,3 @@
 // The static library: every public call of the layers below, for C and Rust to link. include/apptbook.h is its header.
+pub mod book_calls;
 pub mod days_calls;

@@ -32,7 +32,17 @@ pub fn word(s: &[u8], i: usize) -> u16
     }
 }
 
-// The same, high byte first.
+// The same where both bytes are there, without looking.
+pub fn word_in(s: &[u8], i: usize) -> u16
+    requires { ⌜ i + 1 < length (now s) ⌝ }
+    ensures { λ r. ⌜ r ≡ word (now (s .entry)) i ⌝ }
+{
+    let first = wide(s[i]);
+    let second = wide(s[i + 1]);
+    first + 256 * second
+}
+
+// The number of the two bytes at i, high byte first.
 pub fn word_high(s: &[u8], i: usize) -> u16
     ensures { λ r. ⌜ r ≡ wordHigh (now (s .entry)) i ⌝ }
 {

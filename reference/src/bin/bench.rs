@@ -132,6 +132,58 @@ fn small_day_rows(inputs: &Days) -> Vec<Row<'_>> {
     ]
 }
 
+mod books {
+    use super::{hidden, Run};
+    use reference::book as plain;
+    use reference::books::{long, small, File};
+    use reference::ffi::book as proved;
+    use reference::rng::Rng;
+    use std::hint::black_box;
+
+    const CALLS: usize = 20;
+
+    /// Of 65,535 bytes each: some 3,700 dated records with short texts, and 135 with notes of 440 bytes.
+    pub struct Books {
+        small: Vec<u8>,
+        long: Vec<u8>,
+    }
+
+    impl Books {
+        pub fn full() -> Self {
+            let mut rng = Rng::new(1);
+            Books {
+                small: File::full(plain::LONGEST, || small(1, &mut rng)).bytes,
+                long: File::full(plain::LONGEST, || long(1, &mut rng)).bytes,
+            }
+        }
+    }
+
+    fn again<'a, I: Copy + 'a, O>(input: I, call: impl Fn(I) -> O + 'a) -> Option<Run<'a>> {
+        Some(Box::new(move |count| {
+            for _ in 0..count {
+                black_box(&call(black_box(input)));
+            }
+        }))
+    }
+
+    pub fn rows(Books { small, long }: &Books) -> Vec<super::Row<'_>> {
+        let row = |name, proved, plain| super::Row { name, calls: CALLS, runs: [proved, plain, None] };
+        let read =
+            |name, file| row(name, again(file, proved::read_book), again(file, hidden(plain::read_book)));
+        let last = |name, file| {
+            let asked = (file, plain::read_book(file).expect("a right book").records - 1);
+            let proved = again(asked, |(file, number)| proved::record(file, number));
+            row(name, proved, again(asked, hidden(|(file, number)| plain::record(file, number))))
+        };
+        vec![
+            read("book of small records", small),
+            last("its last record", small),
+            read("book of long records", long),
+            last("its last record", long),
+        ]
+    }
+}
+
 /// All instructions of a process that makes so many calls; None where there is no valgrind.
 fn instructions(row: usize, column: usize, calls: usize) -> Option<f64> {
     let output = Command::new("valgrind")
@@ -193,7 +245,10 @@ fn print_table(rows: &[Row]) {
 /// With no word: the table. With three: the row's and the column's number and a count of calls to make.
 fn main() {
     let days = Days::random();
-    let rows: Vec<Row> = day_rows(&days).into_iter().chain(small_day_rows(&days)).collect();
+    let books = books::Books::full();
+    let rows = day_rows(&days).into_iter().chain(small_day_rows(&days));
+    let rows = rows.chain(books::rows(&books));
+    let rows: Vec<Row> = rows.collect();
     let numbers: Vec<usize> = env::args().skip(1).map(|word| word.parse().expect("a number")).collect();
     match numbers[..] {
         [] => print_table(&rows),

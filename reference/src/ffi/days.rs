@@ -72,20 +72,6 @@ pub struct FactsAnswer {
     pub month_length: u16,
 }
 
-/// `From<Result<$value, Refusal>>`: the value's fields, or number and place and 0 in all else.
-macro_rules! answer_of_result {
-    ($answer:ident, $value:ty, $pattern:pat => { $($field:ident: $part:expr),* }) => {
-        impl From<Result<$value, Refusal>> for $answer {
-            fn from(result: Result<$value, Refusal>) -> Self {
-                match result {
-                    Ok($pattern) => $answer { number: 0, place: 0, $($field: $part),* },
-                    Err(Refusal { number, place }) => $answer { number, place, ..Default::default() },
-                }
-            }
-        }
-    };
-}
-
 answer_of_result!(LengthAnswer, u16, length => { length: length });
 answer_of_result!(DayAnswer, u16, day => { day: day });
 answer_of_result!(DateAnswer, Date, date => { year: date.year, month: date.month, day: date.day });

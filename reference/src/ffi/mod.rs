@@ -3,4 +3,19 @@
 //!
 //! An answer can be made from the reference's `Result`, so that a comparison sees every field.
 
+/// `From<Result<$value, Refusal>>`: the value's fields, or number and place and 0 in all else.
+macro_rules! answer_of_result {
+    ($answer:ident, $value:ty, $pattern:pat => { $($field:ident: $part:expr),* $(,)? }) => {
+        impl From<Result<$value, Refusal>> for $answer {
+            fn from(result: Result<$value, Refusal>) -> Self {
+                match result {
+                    Ok($pattern) => $answer { number: 0, place: 0, $($field: $part),* },
+                    Err(Refusal { number, place }) => $answer { number, place, ..Default::default() },
+                }
+            }
+        }
+    };
+}
+
+pub mod book;
 pub mod days;

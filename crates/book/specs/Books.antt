@@ -1,0 +1,77 @@
+-- A book as it is read, document 01 "Order": 1, 2, 3, then record by record, after the end record 9.
+-- Assumes nothing.
+use Prim.Native.Nat.{ℕ, suc, _+_}
+use mathlib.Core.Bool.{Bool, true, false}
+use mathlib.Core.List.{List, [], _∷_, map}
+use lib.ListN.{length, getD}
+use Rattle.prelude.specs.Choice.{ifLt, ifB}
+use Rattle.prelude.specs.Bytes.{part}
+use Rattle.prelude.specs.Refusals.{bookTooLong, notABook, badSettings, afterEnd, noSuchNumber, refusal, refusalAt}
+use Rattle.prelude.specs.declared.refusals.Verdict.{Verdict}
+use Rattle.records.specs.Fields.{recordOf, fixedOf, textLength, noteLength}
+use Rattle.book.specs.Settings.{identified, settingsOf, settingsOk}
+use Rattle.book.specs.Walk.{Walk, more, ended, stopped, typeAt, bodyAt, walkOf, placesIn}
+use Rattle.book.specs.declared.types.Settings.{Settings}
+use Rattle.book.specs.declared.types.BookAnswer.{BookAnswer}
+use Rattle.book.specs.declared.types.Entry.{Entry}
+use Rattle.book.specs.declared.types.RecordAnswer.{RecordAnswer}
+
+-- "it is the file's last three bytes": what comes after the end record, which ends at e
+unfoldable pub afterEndRecord : List ℕ → ℕ → Verdict
+afterEndRecord f e = ifLt e (length f) (Verdict.Refused (refusalAt afterEnd e)) Verdict.Fine
+
+unfoldable pub accepted : Settings → ℕ → Verdict → BookAnswer
+accepted s n Verdict.Fine = BookAnswer.Accepted (record { settings = s; records = n })
+accepted s n (Verdict.Refused e) = BookAnswer.Refused e
+
+-- the book, n records behind and the walk ahead
+unfoldable pub counted : List ℕ → ℕ → Walk → BookAnswer
+counted f n (more at w) = counted f (suc n) w
+counted f n (ended e) = accepted (settingsOf f) n (afterEndRecord f e)
+counted f n (stopped e) = BookAnswer.Refused e
+
+unfoldable pub bookOf : List ℕ → BookAnswer
+bookOf f =
+    ifLt 65535 (length f) (BookAnswer.Refused (refusal bookTooLong))
+    (ifB (identified f)
+    (ifB (settingsOk f) (counted f 0 (walkOf f)) (BookAnswer.Refused (refusalAt badSettings 5)))
+    (BookAnswer.Refused (refusal notABook)))
+
+-- the record at a place with its stretches: "Text follows, then note"
+unfoldable pub entryAt : List ℕ → ℕ → Entry
+entryAt f at =
+    record {
+      place = at;
+      «record» = recordOf (typeAt f at) (bodyAt f at);
+      text = record { place = at + 3 + fixedOf (typeAt f at); length = textLength (typeAt f at) (bodyAt f at) };
+      note =
+          record {
+            place = at + 3 + fixedOf (typeAt f at) + textLength (typeAt f at) (bodyAt f at);
+            length = noteLength (typeAt f at) (bodyAt f at);
+          };
+    }
+
+-- the records of an accepted book, in the book's order
+unfoldable pub placesOf : List ℕ → List ℕ
+placesOf f = placesIn (walkOf f)
+
+unfoldable pub entriesOf : List ℕ → List Entry
+entriesOf f = map (entryAt f) (placesOf f)
+
+-- the record at a number: "Calls on a book give these first, then .. 10"
+unfoldable pub recordFrom : List ℕ → ℕ → BookAnswer → RecordAnswer
+recordFrom f k (BookAnswer.Accepted b) =
+    ifLt k (b .records) (RecordAnswer.Record (entryAt f (getD (placesOf f) k 0))) (RecordAnswer.Refused (refusal noSuchNumber))
+recordFrom f k (BookAnswer.Refused e) = RecordAnswer.Refused e
+
+unfoldable pub recordAnswer : List ℕ → ℕ → RecordAnswer
+recordAnswer f k = recordFrom f k (bookOf f)
+
+-- a record's text and note as stretches of the file; nothing where there is no such record
+unfoldable pub textIn : List ℕ → RecordAnswer → List ℕ
+textIn f (RecordAnswer.Record e) = part f (e .text .place) (e .text .length)
+textIn f (RecordAnswer.Refused r) = []
+
+unfoldable pub noteIn : List ℕ → RecordAnswer → List ℕ
+noteIn f (RecordAnswer.Record e) = part f (e .note .place) (e .note .length)
+noteIn f (RecordAnswer.Refused r) = []

@@ -1,0 +1,79 @@
+-- Laws of the records of an accepted book: each is judged fine, and its text and note lie in the file.
+-- Assumes nothing.
+use Prim.Native.Nat.{ℕ, zero, suc, _+_, _-_, _<_, _≤_}
+use mathlib.Core.Path.{_≡_, refl, sym, _∙_, ap, subst}
+use mathlib.Core.List.{List}
+use native.Mathlib.Omega.{arith}
+use lib.ListN.{length, getD, length-take, length-drop}
+use Rattle.prelude.specs.Choice.{lt-take}
+use Rattle.prelude.specs.Refusals.{noSuchNumber, refusal}
+use Rattle.prelude.specs.declared.refusals.Refusal.{Refusal}
+use Rattle.records.specs.Fields.{fixedOf, textLength, noteLength}
+use Rattle.records.specs.JudgeLaws.{Judged, judged}
+use Rattle.book.specs.Walk.{typeAt, lengthAt, bodyAt, nextPlace}
+use Rattle.book.specs.Books.{bookOf, entryAt, placesOf, recordFrom, recordAnswer}
+use Rattle.book.specs.WalkLaws.{At, RecordAt}
+use Rattle.book.specs.BookLaws.{AcceptedBook, book-accepted, Cursor, cursor-first, Ahead, cursor-ahead}
+use Rattle.book.specs.declared.types.Book.{Book}
+use Rattle.book.specs.declared.types.BookAnswer.{BookAnswer}
+use Rattle.book.specs.declared.types.Entry.{Entry}
+use Rattle.book.specs.declared.types.RecordAnswer.{RecordAnswer}
+
+-- a cursor for each record
+pub record Reached (f : List ℕ) (n : ℕ) : Type 0 where
+  pub at : ℕ
+  pub cursor : Cursor f n at
+
+pub reach : (f : List ℕ) → 12 ≤ length f → (n : ℕ) → n ≤ length (placesOf f) → Reached f n
+reach f h zero l = record { at = 12; cursor = cursor-first f h }
+reach f h (suc n) l =
+    let r : Reached f n = reach f h n (omega arith) in
+    record { at = nextPlace f (r .at); cursor = cursor-ahead f n (r .at) (r .cursor) l .next }
+
+-- the n-th record's place holds a record that was judged fine
+pub record-there : (f : List ℕ) → 12 ≤ length f → (n : ℕ) → n < length (placesOf f) → RecordAt f (getD (placesOf f) n 0)
+record-there f h n l =
+    let r : Reached f n = reach f h n (omega arith) in
+    let a : Ahead f n (r .at) = cursor-ahead f n (r .at) (r .cursor) l in
+    rw (a .place) (a .entry)
+
+-- text and note lie in the file, the note right behind the text
+pub record Inside (f : List ℕ) (e : Entry) : Type 0 where
+  pub text : e .text .place + e .text .length ≡ e .note .place
+  pub note : e .note .place + e .note .length ≤ length f
+
+length-body : (f : List ℕ) (at : ℕ) → at + 3 + lengthAt f at ≤ length f → length (bodyAt f at) ≡ lengthAt f at
+length-body f at h = simp (length-take, length-drop) (omega arith)
+
+pub entry-inside : (f : List ℕ) (at : ℕ) → RecordAt f at → Inside f (entryAt f at)
+unfolding entryAt
+entry-inside f at r =
+    let j : Judged (typeAt f at) (bodyAt f at) = judged (typeAt f at) (bodyAt f at) (r .fine) in
+    let l : length (bodyAt f at) ≡ lengthAt f at = length-body f at (r .body) in
+    let b : fixedOf (typeAt f at) + textLength (typeAt f at) (bodyAt f at) + noteLength (typeAt f at) (bodyAt f at) ≤ length (bodyAt f at) = j .fits in
+    record { text = refl; note = omega (arith, r .body) }
+
+refused-not : {e : Refusal} {x : Entry} → RecordAnswer.Refused e ≡ RecordAnswer.Record x → ⊥
+refused-not c = let z : _≡_ {A = ℕ} 0 1 = cc in omega arith
+
+record-inj : {a b : Entry} → RecordAnswer.Record a ≡ RecordAnswer.Record b → a ≡ b
+record-inj e = cc
+
+from-accepted : (f : List ℕ) (k : ℕ) {e : Entry} (b : Book) → AcceptedBook f b → recordFrom f k (BookAnswer.Accepted b) ≡ RecordAnswer.Record e → Inside f e
+unfolding recordFrom
+from-accepted f k {e} b a h =
+    let p = lt-take k (b .records) _ _ refused-not h in
+    let c : b .records ≡ length (placesOf f) = a .count in
+    let l : k < b .records = p .0 in
+    let r : RecordAt f (getD (placesOf f) k 0) = record-there f (a .long) k (omega arith) in
+    rw (record-inj (p .1)) at (entry-inside f (getD (placesOf f) k 0) r)
+
+from-book : (f : List ℕ) (k : ℕ) {e : Entry} (b : BookAnswer) → bookOf f ≡ b → recordFrom f k b ≡ RecordAnswer.Record e → Inside f e
+unfolding recordFrom
+from-book f k (BookAnswer.Accepted b) q h = from-accepted f k b (book-accepted f q) h
+from-book f k (BookAnswer.Refused r) q h = absurd (refused-not h)
+
+-- the text and the note of a record at a number lie in the file
+pub record-inside : (f : List ℕ) (k : ℕ) {e : Entry} → recordAnswer f k ≡ RecordAnswer.Record e → Inside f e
+unfolding recordAnswer
+record-inside f k h = from-book f k (bookOf f) refl h

@@ -1,0 +1,9 @@
+-- The book: its first bytes, the walk from record to record, and what reading gives.
+pub mod Settings
+pub mod Walk
+pub mod Books
+pub mod WalkLaws
+pub mod BookLaws
+pub mod EntryLaws
+pub mod Lines
+pub mod Examples

@@ -1,0 +1,91 @@
+// Reading a book: one pass from record to record, linear in the file.
+ghost use mathlib.Core.Path.{_≡_};
+ghost use Prim.Native.Nat.{_≤_};
+ghost use lib.ListN.{length};
+ghost use Rattle.book.specs.Settings.{settingsOf};
+ghost use Rattle.book.specs.Walk.{walkOf};
+ghost use Rattle.book.specs.Books.{afterEndRecord, accepted, counted, bookOf};
+use crate::settings::is_identified;
+use crate::settings::settings_of;
+use crate::settings::settings_ok;
+use crate::steps::step_at;
+use crate::types::Book;
+use crate::types::BookAnswer;
+use crate::types::Settings;
+use crate::types::StepAnswer;
+use prelude::refusals::AFTER_END;
+use prelude::refusals::BAD_SETTINGS;
+use prelude::refusals::BOOK_TOO_LONG;
+use prelude::refusals::NOT_A_BOOK;
+use prelude::refusals::Refusal;
+use prelude::refusals::Verdict;
+
+// What comes after the end record, which ends at e.
+fn after_end_record(file: &[u8], e: usize) -> Verdict
+    ensures { λ r. ⌜ r ≡ afterEndRecord (now (file .entry)) e ⌝ }
+{
+    if e < file.len() {
+        return Verdict::Refused(Refusal {
+            number: AFTER_END,
+            place: e,
+        });
+    }
+    Verdict::Fine
+}
+
+fn accepted_with(settings: Settings, records: usize, v: Verdict) -> BookAnswer
+    ensures { λ r. ⌜ r ≡ accepted settings records v ⌝ }
+{
+    match v {
+        Verdict::Fine => BookAnswer::Accepted(Book { settings, records }),
+        Verdict::Refused(e) => BookAnswer::Refused(e),
+    }
+}
+
+fn read_records(file: &[u8]) -> BookAnswer
+    requires { ⌜ 12 ≤ length (now file) ⌝ }
+    ensures { λ r. ⌜ r ≡ counted (now (file .entry)) 0 (walkOf (now (file .entry))) ⌝ }
+{
+    let mut n: usize = 0;
+    let mut at: usize = 12;
+    loop {
+        match step_at(file, at) {
+            StepAnswer::Record(next) => {
+                n += 1;
+                at = next;
+            }
+            StepAnswer::End => {
+                let settings = settings_of(file);
+                return accepted_with(settings, n, after_end_record(file, at + 3));
+            }
+            StepAnswer::Stopped(e) => {
+                return BookAnswer::Refused(e);
+            }
+        }
+    }
+}
+
+// The settings and the number of records of a book, or its refusal.
+pub fn read_book(file: &[u8]) -> BookAnswer
+    ensures { λ r. ⌜ r ≡ bookOf (now (file .entry)) ⌝ }
+{
+    if 65535 < file.len() {
+        return BookAnswer::Refused(Refusal {
+            number: BOOK_TOO_LONG,
+            place: 0,
+        });
+    }
+    if is_identified(file) {
+        if settings_ok(file) {
+            return read_records(file);
+        }
+        return BookAnswer::Refused(Refusal {
+            number: BAD_SETTINGS,
+            place: 5,
+        });
+    }
+    BookAnswer::Refused(Refusal {
+        number: NOT_A_BOOK,
+        place: 0,
+    })
+}

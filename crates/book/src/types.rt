@@ -1,0 +1,55 @@
+// What reading a book gives.
+use days::types::Minute;
+use prelude::refusals::Refusal;
+use records::types::Record;
+use records::types::Stretch;
+
+// The book's settings, document 01 "Settings".
+pub struct Settings {
+    pub start: Minute,
+    pub granularity: u16,
+    pub alarm: bool,
+    pub lead: u16,
+    pub carry_forward: bool,
+}
+
+// An accepted book: its settings, and how many records it has, to-dos among them and the end record not.
+pub struct Book {
+    pub settings: Settings,
+    pub records: usize,
+}
+
+pub enum BookAnswer {
+    Accepted(Book),
+    Refused(Refusal),
+}
+
+// What stands at a record's place: a record with the next place, the end record, or a refusal.
+pub enum StepAnswer {
+    Record(usize),
+    End,
+    Stopped(Refusal),
+}
+
+// A record with its own place in the file, and the stretches of its text and note.
+pub struct Entry {
+    pub place: usize,
+    pub record: Record,
+    pub text: Stretch,
+    pub note: Stretch,
+}
+
+pub enum RecordAnswer {
+    Record(Entry),
+    Refused(Refusal),
+}
+
+pub enum LinesAnswer {
+    Lines(usize),
+    Refused(Refusal),
+}
+
+pub enum LineAnswer {
+    Line(Stretch),
+    Refused(Refusal),
+}

@@ -1,0 +1,219 @@
+//! Books written out by hand, byte for byte, with what a reader is to give.
+
+use crate::days::Date;
+use crate::records::{Entry, Record, Rule, Times};
+
+/// Document 01, "One whole case": one dated record at 12, its text at 27.
+pub const WHOLE_CASE: [u8; 33] = [
+    0xFF, 0xFF, 0x01, 0x00, 0x01, 0xE0, 0x01, 0x1E, 0x00, 0x01, 0x05, 0x00, 0x01, 0x0F, 0x00, 0x01, 0x5D,
+    0x03, 0x0F, 0x02, 0x58, 0x94, 0x02, 0x05, 0x03, 0x00, 0x00, 0x44, 0x65, 0x70, 0x32, 0x00, 0x00,
+];
+
+const HEAD: &[u8] = &[0xFF, 0xFF, 1, 0, 1, 0x9F, 0x05, 0xD0, 0x02, 0, 30, 1];
+
+/// Unnamed state bits set; the first date, the longest time, no text.
+const DATED: &[u8] = &[1, 12, 0, 0x81, 80, 1, 1, 0, 0, 0x9F, 0x05, 30, 0, 0, 0];
+
+/// Tuesdays at 5:00; a note of three lines, the middle one empty, the last without a zero.
+const WEEKLY: &[u8] = &[
+    2, 22, 0, 0, 3, 0x01, 0x2C, 93, 3, 16, 0x2C, 0x01, 199, 12, 31, 0, 2, 4, 0, b'G', b'o', b'a', 0, 0, b'b',
+];
+
+/// Bit 0 clear and all others set; one day long; padding that looks like an end record.
+const MONTHLY_BY_DATE: &[u8] = &[
+    3, 22, 0, 0xFE, 31, 0x05, 0x9F, 100, 2, 29, 0x9F, 0x05, 100, 2, 29, 15, 1, 0, 0, b'R', 50, 0, 0, 0xFF,
+    0xFF,
+];
+
+/// At 0:05, which is 21:20 when read low byte first; a text of 27 bytes.
+const MONTHLY_BY_POSITION: &[u8] = &[
+    4, 44, 0, 1, 5, 1, 0x00, 0x05, 80, 1, 1, 0x05, 0x00, 199, 12, 31, 1, 27, 0, 0, b'J', b'u', b'd', b'g',
+    b'e', b'\'', b's', b' ', b'l', b'i', b's', b't', b',', b' ', b'f', b'i', b'f', b't', b'h', b' ', b'S',
+    b'u', b'n', b'd', b'a', b'y', b'!',
+];
+
+/// 29 February; a note of one empty line.
+const YEARLY: &[u8] =
+    &[5, 21, 0, 0, 2, 29, 0x02, 0x58, 92, 2, 29, 0x59, 0x02, 93, 2, 28, 30, 3, 1, 0, b'D', b'e', b'p', 0];
+
+/// Checked off, and that before its start date.
+const DONE: &[u8] = &[6, 15, 0, 0x03, 9, 93, 3, 15, 93, 3, 1, 4, 0, 0, b'F', b'i', b'l', b'e'];
+
+/// Not checked off; other state bits set.
+const TO_DO: &[u8] = &[6, 11, 0, 0xFC, 1, 199, 12, 31, 0, 0, 0, 0, 0, 0];
+
+const END: &[u8] = &[50, 0, 0];
+
+/// The records above, at 12, 27, 52, 77, 124, 148 and 166; the end record at 180.
+pub fn every_kind() -> Vec<u8> {
+    [HEAD, DATED, WEEKLY, MONTHLY_BY_DATE, MONTHLY_BY_POSITION, YEARLY, DONE, TO_DO, END].concat()
+}
+
+pub fn every_kind_records() -> Vec<Record> {
+    let date = |year, month, day| Date { year, month, day };
+    let times = |start, end, lead| Times { start, end, lead };
+    let repeated = |rule, first, last, times| Entry::Repeated { rule, first, last, times };
+    vec![
+        Record {
+            at: 12,
+            flag: true,
+            entry: Entry::Dated { date: date(1980, 1, 1), times: times(0, 1_439, 30) },
+            text: 27..27,
+            note: 27..27,
+        },
+        Record {
+            at: 27,
+            flag: false,
+            entry: repeated(
+                Rule::Weekly { weekday: 3 },
+                date(1993, 3, 16),
+                date(2099, 12, 31),
+                times(300, 300, 0),
+            ),
+            text: 46..48,
+            note: 48..52,
+        },
+        Record {
+            at: 52,
+            flag: false,
+            entry: repeated(
+                Rule::MonthlyByDate { day: 31 },
+                date(2000, 2, 29),
+                date(2000, 2, 29),
+                times(1_439, 1_439, 15),
+            ),
+            text: 71..72,
+            note: 72..72,
+        },
+        Record {
+            at: 77,
+            flag: true,
+            entry: repeated(
+                Rule::MonthlyByPosition { week: 5, weekday: 1 },
+                date(1980, 1, 1),
+                date(2099, 12, 31),
+                times(5, 5, 1),
+            ),
+            text: 97..124,
+            note: 124..124,
+        },
+        Record {
+            at: 124,
+            flag: false,
+            entry: repeated(
+                Rule::Yearly { month: 2, day: 29 },
+                date(1992, 2, 29),
+                date(1993, 2, 28),
+                times(600, 601, 30),
+            ),
+            text: 144..147,
+            note: 147..148,
+        },
+        Record {
+            at: 148,
+            flag: true,
+            entry: Entry::ToDo { priority: 9, start: date(1993, 3, 15), check_off: Some(date(1993, 3, 1)) },
+            text: 162..166,
+            note: 166..166,
+        },
+        Record {
+            at: 166,
+            flag: false,
+            entry: Entry::ToDo { priority: 1, start: date(2099, 12, 31), check_off: None },
+            text: 180..180,
+            note: 180..180,
+        },
+    ]
+}
+
+/// Where `every_kind` is changed, to what, and the number and place that it is then refused with.
+pub const FAULTS: &[(usize, &[u8], u32, usize)] = &[
+    (0, &[0xFE], 2, 0),
+    (2, &[2], 2, 0),
+    (4, &[2], 2, 0),
+    (5, &[0xA0, 0x05], 3, 5),
+    (7, &[0, 0], 3, 5),
+    (7, &[0xD1, 0x02], 3, 5),
+    (9, &[2], 3, 5),
+    (10, &[31], 3, 5),
+    (11, &[2], 3, 5),
+    // Dated.
+    (12, &[0], 5, 12),
+    (12, &[7], 5, 12),
+    (12, &[50], 5, 12),
+    (12, &[50, 0xFF, 0xFF], 5, 12),
+    (12, &[50, 0, 0], 9, 15),
+    (13, &[0xFF, 0xFF], 4, 12),
+    (13, &[169], 4, 12),
+    (13, &[168], 4, 183),
+    (13, &[11], 6, 12),
+    (16, &[79], 7, 12),
+    (16, &[200], 7, 12),
+    (16, &[93, 2, 29], 7, 12),
+    (17, &[0], 7, 12),
+    (17, &[13], 7, 12),
+    (18, &[0], 7, 12),
+    (18, &[32], 7, 12),
+    (19, &[0x05, 0xA0], 7, 12),
+    (21, &[0xA0, 0x05], 7, 12),
+    (23, &[31], 7, 12),
+    (24, &[1], 6, 12),
+    (25, &[1], 6, 12),
+    // Weekly.
+    (31, &[0], 7, 27),
+    (31, &[8], 7, 27),
+    (37, &[0x2B, 0x01], 7, 27),
+    (39, &[93, 3, 15], 7, 27),
+    (39, &[93, 2, 28], 7, 27),
+    (39, &[92, 12, 31], 7, 27),
+    (44, &[5], 6, 27),
+    (46, &[0], 8, 27),
+    (47, &[0], 8, 27),
+    // Monthly by date.
+    (56, &[0], 7, 52),
+    (56, &[32], 7, 52),
+    // Monthly by position.
+    (81, &[0], 7, 77),
+    (81, &[6], 7, 77),
+    (82, &[0], 7, 77),
+    (82, &[8], 7, 77),
+    (94, &[28], 6, 77),
+    // Yearly.
+    (128, &[2, 30], 7, 124),
+    (128, &[4, 31], 7, 124),
+    (128, &[0, 1], 7, 124),
+    (128, &[13, 1], 7, 124),
+    // To-do, checked off: without its bit, without its date, with a day that does not exist.
+    (151, &[1], 7, 148),
+    (156, &[0, 0, 0], 7, 148),
+    (156, &[93, 2, 29], 7, 148),
+    (152, &[0], 7, 148),
+    (152, &[10], 7, 148),
+    // To-do, not checked off: with its bit, with one byte of a date.
+    (169, &[0xFE], 7, 166),
+    (174, &[93], 7, 166),
+    (175, &[1], 7, 166),
+    (176, &[1], 7, 166),
+    // The end record.
+    (180, &[1], 6, 180),
+    (180, &[51], 5, 180),
+    (181, &[1], 5, 180),
+    (182, &[1], 5, 180),
+];
+
+/// To how many bytes `every_kind` is cut, and the number and place that it is then refused with.
+pub const CUTS: &[(usize, u32, usize)] = &[
+    (0, 2, 0),
+    (4, 2, 0),
+    (5, 3, 5),
+    (11, 3, 5),
+    (12, 4, 12),
+    (14, 4, 12),
+    (15, 4, 12),
+    (26, 4, 12),
+    (27, 4, 27),
+    (76, 4, 52),
+    (179, 4, 166),
+    (180, 4, 180),
+    (182, 4, 180),
+];
