@@ -4,11 +4,12 @@
  * C header of the proved library libcabi.a (x86-64). No call keeps anything between calls, allocates
  * memory or has a precondition: every argument gets an answer. A file is lent as a pointer and a number of
  * bytes; so many must be there, and whatever they are gets an answer too. A call reads them and changes none.
+ * Only the buffer that a book is written into is changed, as said there.
  *
  * An answer is a struct by value. It begins with
  *   number   APPTBOOK_ACCEPTED (0), or the number of the refusal;
  *   place    the byte of the file that the refusal is about, 0 where no file byte is meant.
- * On a refusal all its other fields are 0 or false.
+ * On a refusal all its other fields are 0 or false, except in a writing state, which comes back as it was.
  */
 #ifndef APPTBOOK_H
 #define APPTBOOK_H
@@ -224,6 +225,77 @@ apptbook_lines_answer apptbook_note_lines(const uint8_t *file, size_t len, size_
 
 /* A line of the record's note. Refused with 10 when there is no such record or no such line. */
 apptbook_line_answer apptbook_note_line(const uint8_t *file, size_t len, size_t record, size_t line);
+
+/*
+ * Writing a book.
+ *
+ * apptbook_open begins a book in a lent buffer, each apptbook_add adds a record behind the bytes used, and
+ * apptbook_close ends the book: the file is then the buffer's first `used` bytes. The state goes in and
+ * comes back with each call; nothing else is kept, so lend the same buffer, untouched, and hand on each
+ * state that came back:
+ *
+ *   apptbook_writer w = apptbook_open(settings, buffer, len);
+ *   w = apptbook_add(w, buffer, len, record, text, text_len, note, note_len);
+ *   w = apptbook_close(w, buffer, len);
+ *
+ * The refusals are APPTBOOK_BAD_SETTINGS (3), APPTBOOK_BAD_LENGTH (6), APPTBOOK_BAD_FIELD (7),
+ * APPTBOOK_BAD_TEXT (8), APPTBOOK_NO_ROOM (12) and APPTBOOK_NOT_OPEN (14), all with place 0; of several
+ * faults the first in the order named at the call counts. On a refusal no byte of the buffer is changed and
+ * used and closed come back as they went in, so a later call may go on from there: look at number after
+ * each call. Otherwise only the bytes that the call writes are changed.
+ *
+ * A book has at most 65,535 bytes, however long the buffer is. Each call but the last leaves room for the
+ * end record's three bytes.
+ *
+ * Neither text nor note may lie in the buffer: what is to be taken from there must be copied first.
+ */
+
+/* The writing state: it goes in, where number and place are ignored, and it is the answer. */
+typedef struct apptbook_writer {
+    uint32_t number;
+    size_t place; /* always 0 */
+    size_t used;  /* bytes of the buffer used so far; once closed, the file's length */
+    bool closed;
+} apptbook_writer;
+
+/*
+ * Writes the identification and the settings, 12 bytes; used is then 12. Bytes 12 on stay as they were.
+ * Of the settings start, granularity, lead, alarm and carry_forward are used and all else is ignored, so
+ * what apptbook_read_book gave can be handed on as it is.
+ *
+ * Refused, with used 0 and not closed:
+ *   3   a setting outside its range;
+ *   12  the buffer has fewer than 15 bytes.
+ */
+apptbook_writer apptbook_open(apptbook_book_answer settings, uint8_t *buffer, size_t len);
+
+/*
+ * Adds a record: its three head bytes, its fixed fields, text and note; no padding, and 0 in the state bits
+ * that have no name. Of the record kind and the fields of that kind are used, and all else is ignored
+ * (number, the places and lengths, fields that the kind does not have), so what apptbook_record gave can be
+ * handed on as it is, together with text and note. Of a to-do that is not checked off the check-off date is
+ * ignored.
+ *
+ * Refused, in this order:
+ *   14  used is below 12, or the state is closed;
+ *   6   the text has more than 27 bytes;
+ *   7   kind is not 1 to 6, or a field is outside its range;
+ *   8   the text holds a zero byte; the note has more than 440 bytes, more than 11 lines or a line of more
+ *       than 39 bytes (a zero byte ends a line, bytes after the last zero form one more);
+ *   12  used + the record's bytes + 3 is more than len or 65,535. No sum wraps around.
+ * A state with used of 12 or more is taken as it is, even if no call gave it.
+ */
+apptbook_writer apptbook_add(apptbook_writer state, uint8_t *buffer, size_t len, apptbook_record_answer record,
+                             const uint8_t *text, size_t text_len, const uint8_t *note, size_t note_len);
+
+/*
+ * Ends the book by its end record, 32 00 00 in hexadecimal; used grows by 3 and the state is closed.
+ *
+ * Refused, in this order:
+ *   14  used is below 12, or the state is closed;
+ *   12  used + 3 is more than len or 65,535.
+ */
+apptbook_writer apptbook_close(apptbook_writer state, uint8_t *buffer, size_t len);
 
 #ifdef __cplusplus
 }

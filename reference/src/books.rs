@@ -6,8 +6,8 @@ mod drafts;
 use crate::book::{IDENTIFICATION, LONGEST};
 use crate::rng::Rng;
 pub use damage::{changes, Change, DAMAGES};
-use drafts::{full_note, letters, low_first, Field};
-pub use drafts::{Draft, File, SETTINGS};
+pub use drafts::{full_note, letters, Draft, File, SETTINGS};
+use drafts::{low_first, Field};
 
 pub struct Case {
     pub name: String,

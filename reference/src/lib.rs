@@ -2,7 +2,8 @@
 //! to be compared with the proved library.
 //!
 //! One module for each layer: `days` here is the plain one, `ffi::days` the proved one. Beside them:
-//! `vectors`, books written out by hand, and `books`, which makes them at random.
+//! `vectors`, books written out by hand, `books`, which makes them at random, and `writings`, which makes
+//! runs of writing calls.
 
 pub mod book;
 pub mod books;
@@ -14,3 +15,5 @@ pub mod records;
 pub mod refusal;
 pub mod rng;
 pub mod vectors;
+pub mod writer;
+pub mod writings;

@@ -49,6 +49,25 @@ pub fn every_kind() -> Vec<u8> {
     [HEAD, DATED, WEEKLY, MONTHLY_BY_DATE, MONTHLY_BY_POSITION, YEARLY, DONE, TO_DO, END].concat()
 }
 
+/// What a writer is to make of those that it would not write as they are: other bits 0, and no padding.
+const WRITTEN_DATED: &[u8] = &[1, 12, 0, 0x01, 80, 1, 1, 0, 0, 0x9F, 0x05, 30, 0, 0, 0];
+const WRITTEN_MONTHLY_BY_DATE: &[u8] =
+    &[3, 17, 0, 0x00, 31, 0x05, 0x9F, 100, 2, 29, 0x9F, 0x05, 100, 2, 29, 15, 1, 0, 0, b'R'];
+const WRITTEN_TO_DO: &[u8] = &[6, 11, 0, 0x00, 1, 199, 12, 31, 0, 0, 0, 0, 0, 0];
+
+/// `every_kind` written again, part by part: what `open`, each `add` and `close` write.
+pub const EVERY_KIND_WRITTEN: [&[u8]; 9] = [
+    HEAD,
+    WRITTEN_DATED,
+    WEEKLY,
+    WRITTEN_MONTHLY_BY_DATE,
+    MONTHLY_BY_POSITION,
+    YEARLY,
+    DONE,
+    WRITTEN_TO_DO,
+    END,
+];
+
 pub fn every_kind_records() -> Vec<Record> {
     let date = |year, month, day| Date { year, month, day };
     let times = |start, end, lead| Times { start, end, lead };
@@ -216,4 +235,112 @@ pub const CUTS: &[(usize, u32, usize)] = &[
     (179, 4, 166),
     (180, 4, 180),
     (182, 4, 180),
+];
+
+/// Start, granularity, lead, the buffer's length, and the number that `open` gives.
+pub const OPENINGS: &[(u16, u16, u16, usize, u32)] = &[
+    (480, 30, 5, 15, 0),
+    (480, 30, 5, 70_000, 0),
+    (0, 1, 0, 15, 0),
+    (1_439, 720, 30, 15, 0),
+    (1_440, 30, 5, 15, 3),
+    (65_535, 30, 5, 15, 3),
+    (480, 0, 5, 15, 3),
+    (480, 721, 5, 15, 3),
+    (480, 30, 31, 15, 3),
+    (480, 30, 256, 15, 3),
+    (480, 30, 5, 14, 12),
+    (480, 30, 5, 12, 12),
+    (480, 30, 5, 0, 12),
+    (480, 0, 5, 14, 3),
+    (480, 30, 31, 0, 3),
+];
+
+/// Used and closed, the buffer's length, and the number that `close` gives.
+pub const CLOSINGS: &[(usize, bool, usize, u32)] = &[
+    (12, false, 15, 0),
+    (12, false, 14, 12),
+    (12, false, 0, 12),
+    (13, false, 70_000, 0),
+    (11, false, 15, 14),
+    (0, false, 0, 14),
+    (12, true, 15, 14),
+    (15, true, 15, 14),
+    (65_532, false, 70_000, 0),
+    (65_533, false, 70_000, 12),
+    (65_535, false, 70_000, 12),
+    (65_548, false, 70_000, 12),
+    (usize::MAX - 3, false, 70_000, 12),
+    (usize::MAX - 2, false, 70_000, 12),
+    (usize::MAX, false, 70_000, 12),
+    (usize::MAX, true, 70_000, 14),
+];
+
+/// Adds the record of the whole case, with another lead, text and note.
+pub struct Adding {
+    /// Used and closed.
+    pub state: (usize, bool),
+    pub room: usize,
+    pub lead: u16,
+    pub text: &'static [u8],
+    pub note: &'static [u8],
+    pub number: u32,
+}
+
+const fn adding(state: (usize, bool), room: usize, number: u32) -> Adding {
+    Adding { state, room, lead: 5, text: b"Dep", note: b"", number }
+}
+
+const fn faulty(used: usize, lead: u16, text: &'static [u8], note: &'static [u8], number: u32) -> Adding {
+    Adding { state: (used, false), room: 600, lead, text, note, number }
+}
+
+/// The record of the whole case has 18 bytes, 15 without its text.
+pub const ADDINGS: &[Adding] = &[
+    adding((12, false), 33, 0),
+    adding((12, false), 32, 12),
+    adding((12, false), 0, 12),
+    adding((13, false), 34, 0),
+    adding((13, false), 33, 12),
+    adding((11, false), 33, 14),
+    adding((0, false), 33, 14),
+    adding((0, true), 0, 14),
+    adding((12, true), 33, 14),
+    adding((65_514, false), 65_535, 0),
+    adding((65_514, false), 65_534, 12),
+    adding((65_514, false), 70_000, 0),
+    adding((65_515, false), 70_000, 12),
+    adding((65_535, false), 70_000, 12),
+    adding((65_548, false), 70_000, 12),
+    adding((1 << 32, false), 70_000, 12),
+    adding((usize::MAX - 21, false), 70_000, 12),
+    adding((usize::MAX - 20, false), 70_000, 12),
+    adding((usize::MAX - 17, false), 70_000, 12),
+    adding((usize::MAX, false), 70_000, 12),
+    adding((usize::MAX, true), 70_000, 14),
+    // Edges of texts and notes.
+    faulty(12, 5, &[b'x'; 27], b"", 0),
+    faulty(12, 5, &[b'x'; 28], b"", 6),
+    faulty(12, 5, &[b'x'; 256], b"", 6),
+    faulty(12, 30, b"", b"", 0),
+    faulty(12, 31, b"", b"", 7),
+    faulty(12, 256, b"", b"", 7),
+    faulty(12, 5, &[0], b"", 8),
+    faulty(12, 5, b"Dep\0", b"", 8),
+    faulty(12, 5, b"", &[b'x'; 39], 0),
+    faulty(12, 5, b"", &[b'x'; 40], 8),
+    faulty(12, 5, b"", &[0; 11], 0),
+    faulty(12, 5, b"", &[0; 12], 8),
+    faulty(12, 5, b"", &[0; 440], 8),
+    faulty(12, 5, b"", &[0; 441], 8),
+    faulty(12, 5, b"", &[b'x'; 441], 8),
+    faulty(12, 5, b"", &[b'x'; 65_536], 8),
+    // All faults at once, and then one less from row to row.
+    faulty(11, 31, &[0; 28], &[0; 12], 14),
+    faulty(600, 31, &[0; 28], &[0; 12], 6),
+    faulty(600, 31, &[0; 27], &[0; 12], 7),
+    faulty(600, 30, &[0; 27], &[0; 12], 8),
+    faulty(600, 30, &[9; 27], &[0; 12], 8),
+    faulty(600, 30, &[9; 27], &[0; 11], 12),
+    faulty(544, 30, &[9; 27], &[0; 11], 0),
 ];

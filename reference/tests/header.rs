@@ -115,3 +115,33 @@ note_line 10 0 0 0\u{20}
         assert_eq!(in_cpp("book.c").unwrap_or(expected()), expected());
     }
 }
+
+mod writer {
+    use super::{in_c99, in_cpp};
+    use reference::ffi::writer::WriterAnswer;
+
+    fn expected() -> String {
+        format!("sizes {}\n{CALLS}", size_of::<WriterAnswer>())
+    }
+
+    const CALLS: &str = "\
+open 12 0 0 0
+open 0 0 12 0
+add 12 0 12 0
+add 0 0 30 0
+close 0 0 33 1
+add 14 0 33 1
+close 14 0 33 1
+same 1
+";
+
+    #[test]
+    fn the_header_works_in_c99() {
+        assert_eq!(in_c99("writer.c"), expected());
+    }
+
+    #[test]
+    fn the_header_works_in_cpp() {
+        assert_eq!(in_cpp("writer.c").unwrap_or(expected()), expected());
+    }
+}

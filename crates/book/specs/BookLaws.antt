@@ -1,25 +1,24 @@
 -- Laws of an accepted book: its count and its records, and the cursor that walks them without starting over.
 -- Assumes nothing.
-use Prim.Native.Nat.{ℕ, zero, suc, _+_, _-_, _*_, _<_, _≤_}
-use mathlib.Core.Path.{_≡_, refl, sym, _∙_, ap, subst}
-use mathlib.Core.Bool.{Bool, true, false, false≢true}
-use mathlib.Core.List.{List, [], _∷_, map}
+use Prim.Native.Nat.{ℕ, suc, _+_, _<_, _≤_}
+use mathlib.Core.Path.{_≡_, refl, sym, _∙_, ap}
+use mathlib.Core.Bool.{true, false≢true}
+use mathlib.Core.List.{List, [], _∷_}
 use native.Mathlib.Omega.{arith}
-use native.Mathlib.Nat.{add-zero, add-suc, zero-add, sub-zero}
-use lib.ListN.{length, getD, drop, length-drop, length-map, List·getD-map}
-use lib.Seq.{drop-cons, getD-drop}
-use Rattle.prelude.specs.Choice.{ifLt, ifB, is-lt, is-ge, is-true, lt-skip, lt-elim, b-take}
+use native.Mathlib.Nat.{add-zero, zero-add}
+use lib.ListN.{length, getD, drop, length-map}
+use lib.Seq.{drop-cons}
+use Rattle.prelude.specs.Choice.{lt-skip, b-take}
 use Rattle.prelude.specs.declared.refusals.Verdict.{Verdict}
 use Rattle.prelude.specs.declared.refusals.Refusal.{Refusal}
 use Rattle.book.specs.Settings.{identified, settingsOf, settingsOk}
-use Rattle.book.specs.Walk.{typeAt, lengthAt, bodyAt, nextPlace, stepAt, Walk, more, ended, stopped, walkFrom, walkOf, placesIn}
+use Rattle.book.specs.Walk.{nextPlace, stepAt, Walk, more, ended, stopped, walkFrom, walkOf, placesIn}
 use Rattle.book.specs.Books.{afterEndRecord, accepted, counted, bookOf, entryAt, placesOf, entriesOf}
 use Rattle.book.specs.WalkLaws.{At, at-first, at-next, RecordAt, step-record, walk-record, walk-end, walk-stop}
 use Rattle.book.specs.declared.types.Settings.{Settings}
 use Rattle.book.specs.declared.types.Book.{Book}
 use Rattle.book.specs.declared.types.BookAnswer.{BookAnswer}
 use Rattle.book.specs.declared.types.StepAnswer.{StepAnswer}
-use Rattle.book.specs.declared.types.Entry.{Entry}
 
 refused-not : {e : Refusal} {b : Book} → BookAnswer.Refused e ≡ BookAnswer.Accepted b → ⊥
 refused-not c = let z : _≡_ {A = ℕ} 0 1 = cc in omega arith

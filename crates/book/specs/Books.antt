@@ -1,8 +1,7 @@
 -- A book as it is read, document 01 "Order": 1, 2, 3, then record by record, after the end record 9.
 -- Assumes nothing.
 use Prim.Native.Nat.{ℕ, suc, _+_}
-use mathlib.Core.Bool.{Bool, true, false}
-use mathlib.Core.List.{List, [], _∷_, map}
+use mathlib.Core.List.{List, [], map}
 use lib.ListN.{length, getD}
 use Rattle.prelude.specs.Choice.{ifLt, ifB}
 use Rattle.prelude.specs.Bytes.{part}

@@ -1,18 +1,17 @@
 -- Laws of the records of an accepted book: each is judged fine, and its text and note lie in the file.
 -- Assumes nothing.
-use Prim.Native.Nat.{ℕ, zero, suc, _+_, _-_, _<_, _≤_}
-use mathlib.Core.Path.{_≡_, refl, sym, _∙_, ap, subst}
+use Prim.Native.Nat.{ℕ, zero, suc, _+_, _<_, _≤_}
+use mathlib.Core.Path.{_≡_, refl}
 use mathlib.Core.List.{List}
 use native.Mathlib.Omega.{arith}
 use lib.ListN.{length, getD, length-take, length-drop}
 use Rattle.prelude.specs.Choice.{lt-take}
-use Rattle.prelude.specs.Refusals.{noSuchNumber, refusal}
 use Rattle.prelude.specs.declared.refusals.Refusal.{Refusal}
 use Rattle.records.specs.Fields.{fixedOf, textLength, noteLength}
 use Rattle.records.specs.JudgeLaws.{Judged, judged}
 use Rattle.book.specs.Walk.{typeAt, lengthAt, bodyAt, nextPlace}
 use Rattle.book.specs.Books.{bookOf, entryAt, placesOf, recordFrom, recordAnswer}
-use Rattle.book.specs.WalkLaws.{At, RecordAt}
+use Rattle.book.specs.WalkLaws.{RecordAt}
 use Rattle.book.specs.BookLaws.{AcceptedBook, book-accepted, Cursor, cursor-first, Ahead, cursor-ahead}
 use Rattle.book.specs.declared.types.Book.{Book}
 use Rattle.book.specs.declared.types.BookAnswer.{BookAnswer}

@@ -5,7 +5,6 @@ use mathlib.Core.Path.{_≡_, refl}
 use mathlib.Core.Bool.{true, false}
 use mathlib.Core.List.{List, [], _∷_}
 use Rattle.prelude.specs.Choice.{ifLt, ifEq, ifB}
-use Rattle.prelude.specs.Refusals.{noSuchNumber, refusal}
 use Rattle.days.specs.Dates.{leap, monthLength, real}
 use Rattle.records.specs.Fields.{datedOf, recordOf, fixedOf}
 use Rattle.records.specs.Ranges.{timesOk, datedOk}

@@ -1,7 +1,6 @@
 -- From record to record, document 01 "The book" and "Order": lengths rule, and nothing is guessed.
 -- Assumes nothing.
 use Prim.Native.Nat.{ℕ, zero, suc, _+_, _-_}
-use mathlib.Core.Bool.{Bool, true, false}
 use mathlib.Core.List.{List, [], _∷_}
 use lib.ListN.{length}
 use Rattle.prelude.specs.Choice.{ifLt, ifEq}

@@ -1,16 +1,15 @@
 -- Laws of the walk: what a step says, and that the walk goes on by one record at a time without ever running out.
 -- Assumes nothing.
-use Prim.Native.Nat.{ℕ, zero, suc, _+_, _-_, _*_, _<_, _≤_}
-use mathlib.Core.Path.{_≡_, refl, sym, _∙_, ap, subst}
-use mathlib.Core.Bool.{Bool, true, false}
-use mathlib.Core.List.{List, [], _∷_}
+use Prim.Native.Nat.{ℕ, suc, _+_, _-_, _*_, _<_, _≤_}
+use mathlib.Core.Path.{_≡_, sym, _∙_, ap}
+use mathlib.Core.List.{List}
 use native.Mathlib.Omega.{arith}
 use lib.ListN.{length}
 use Rattle.prelude.specs.Choice.{is-lt, is-ne, eq-take, eq-skip, lt-skip}
-use Rattle.prelude.specs.Refusals.{cutShort, unknownType, refusalAt}
+use Rattle.prelude.specs.Refusals.{cutShort}
 use Rattle.prelude.specs.declared.refusals.Refusal.{Refusal}
 use Rattle.records.specs.Bodies.{judgeBody}
-use Rattle.book.specs.Walk.{typeAt, lengthAt, bodyAt, nextPlace, judgeHead, judged, stepAt, Walk, more, ended, stopped, onStep, walkF, walkFrom}
+use Rattle.book.specs.Walk.{typeAt, lengthAt, bodyAt, nextPlace, judgeHead, judged, stepAt, more, ended, stopped, onStep, walkF, walkFrom}
 use Rattle.book.specs.declared.types.StepAnswer.{StepAnswer}
 
 -- what a head without refusal is

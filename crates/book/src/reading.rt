@@ -2,7 +2,6 @@
 ghost use mathlib.Core.Path.{_≡_};
 ghost use Prim.Native.Nat.{_≤_};
 ghost use lib.ListN.{length};
-ghost use Rattle.book.specs.Settings.{settingsOf};
 ghost use Rattle.book.specs.Walk.{walkOf};
 ghost use Rattle.book.specs.Books.{afterEndRecord, accepted, counted, bookOf};
 use crate::settings::is_identified;

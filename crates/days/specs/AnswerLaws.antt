@@ -1,8 +1,7 @@
 -- Laws of the answers about days: both round trips, dates and Psion days.
 -- Assumes nothing.
-use Prim.Native.Nat.{ℕ, _+_, _-_, _<_, _≤_}
-use mathlib.Core.Path.{_≡_, refl, sym, _∙_, ap}
-use mathlib.Core.Bool.{Bool, true, false}
+use Prim.Native.Nat.{ℕ, _+_, _-_, _≤_}
+use mathlib.Core.Path.{_≡_, sym, _∙_, ap}
 use native.Mathlib.Omega.{arith}
 use Rattle.prelude.specs.Choice.{is-ge, is-true, lt-skip, b-take}
 use Rattle.days.specs.Dates.{real}

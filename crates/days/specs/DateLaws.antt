@@ -1,11 +1,11 @@
 -- Laws of dates: the bounds of a month's length, what a real date is as facts, both ways.
 -- Assumes nothing.
-use Prim.Native.Nat.{ℕ, _<_, _≤_}
-use mathlib.Core.Path.{_≡_, refl, sym, _∙_}
-use mathlib.Core.Bool.{Bool, true, false, false≢true}
+use Prim.Native.Nat.{ℕ, _≤_}
+use mathlib.Core.Path.{_≡_, _∙_}
+use mathlib.Core.Bool.{true, false≢true}
 use native.Mathlib.Omega.{arith}
-use Rattle.prelude.specs.Choice.{ifLt, ifEq, ifB, is-lt, is-ge, lt-elim, eq-elim, b-elim, lt-skip}
-use Rattle.days.specs.Dates.{leap, monthLength, real, before}
+use Rattle.prelude.specs.Choice.{is-ge, lt-elim, eq-elim, b-elim, lt-skip}
+use Rattle.days.specs.Dates.{leap, monthLength, real}
 use Rattle.days.specs.declared.types.Date.{Date}
 
 pub record Month (m n : ℕ) : Type 0 where

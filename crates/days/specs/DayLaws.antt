@@ -2,14 +2,12 @@
 -- Assumes nothing.
 use Prim.Native.Nat.{ℕ, zero, suc, _+_, _-_, _*_, _/_, _%_, _<_, _≤_}
 use mathlib.Core.Path.{_≡_, refl, sym, _∙_, ap}
-use mathlib.Core.Bool.{Bool, true, false}
 use native.Mathlib.Omega.{arith}
-use native.Mathlib.Numerals.{add-one}
 use native.Mathlib.Nat.{add-zero, add-suc}
 use Rattle.prelude.specs.Choice.{ifLt, ifEq, ifB, is-lt, is-ge, lt-elim}
-use Rattle.days.specs.Dates.{leap, monthLength, real, before}
+use Rattle.days.specs.Dates.{leap, monthLength}
 use Rattle.days.specs.Days.{yearAt, monthAt, lengthAt, monthStart, monthOf, dayNumber, nextDate, dateOf, nextWeekday, weekdayOf, lastDay}
-use Rattle.days.specs.DateLaws.{Month, length-bounds, Valid, facts-valid, valid-facts}
+use Rattle.days.specs.DateLaws.{Month, length-bounds, Valid}
 use Rattle.days.specs.declared.types.Date.{Date}
 
 -- the equations of the month starts

@@ -1,14 +1,13 @@
 -- Document 01, "Small facts to prove": its dates, as the definitions compute them.
 -- Assumes nothing.
 use Prim.Native.Nat.{ℕ}
-use mathlib.Core.Path.{_≡_, refl, _∙_, ap}
+use mathlib.Core.Path.{_≡_, refl}
 use Rattle.prelude.specs.Choice.{ifLt, ifEq, ifB}
 use Rattle.prelude.specs.Refusals.{outOfRange, refusal}
 use Rattle.days.specs.Dates.{leap, monthLength, real}
 use Rattle.days.specs.Days.{lengthAt, monthStart, dayNumber, weekdayOf}
 use Rattle.days.specs.Answers.{dayAnswer}
 use Rattle.days.specs.DayLaws.{weekday-formula}
-use Rattle.days.specs.declared.types.Date.{Date}
 use Rattle.days.specs.declared.answers.DayAnswer.{DayAnswer}
 
 abbrev on : ℕ → ℕ → ℕ → DayAnswer

@@ -2,7 +2,7 @@
 ghost use mathlib.Core.Path.{_≡_};
 ghost use Prim.Native.Nat.{_≤_, _<_};
 ghost use Rattle.days.specs.Days.{nextWeekday, lastDay};
-ghost use Rattle.days.specs.Facts.{factsOf, stepped, nextFacts, firstOf};
+ghost use Rattle.days.specs.Facts.{stepped, nextFacts, firstOf};
 ghost use Rattle.days.specs.Answers.{factsAnswer, nextAnswer};
 use crate::answers::FactsAnswer;
 use crate::dates::month_days;

@@ -1,7 +1,7 @@
 -- The fields of a record's body, document 01 "The book": the bytes after the three head bytes. Bytes past the body's end count as 0.
 -- Assumes nothing.
 use Prim.Native.Nat.{ℕ, _+_, _-_}
-use mathlib.Core.Bool.{Bool, true, false}
+use mathlib.Core.Bool.{Bool}
 use mathlib.Core.List.{List}
 use lib.Dec.{eqb}
 use lib.Bits.{bitAnd}

@@ -1,10 +1,10 @@
 -- The rules of text and note, document 01 "Ranges". Against them the refusal is 8.
 -- Assumes nothing.
-use Prim.Native.Nat.{ℕ, zero, suc, _+_}
+use Prim.Native.Nat.{ℕ}
 use mathlib.Core.Bool.{Bool, true, false}
 use mathlib.Core.List.{List, [], _∷_}
 use lib.ListN.{length}
-use Rattle.prelude.specs.Choice.{ifLt, ifEq, ifB}
+use Rattle.prelude.specs.Choice.{ifLt, ifEq}
 
 -- "Text: .. no zero byte."
 unfoldable pub noZero : List ℕ → Bool

@@ -6,7 +6,6 @@ use mathlib.Core.List.{List}
 use Rattle.prelude.specs.Choice.{ifLt, ifEq, ifB}
 use Rattle.prelude.specs.Bytes.{byte}
 use Rattle.days.specs.Dates.{monthLength, real, before}
-use Rattle.days.specs.declared.types.Date.{Date}
 use Rattle.records.specs.declared.types.Dated.{Dated}
 use Rattle.records.specs.declared.types.Repeat.{Repeat}
 use Rattle.records.specs.declared.types.Weekly.{Weekly}

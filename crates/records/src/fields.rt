@@ -1,7 +1,7 @@
 // The fields of a record's body, gathered without judging them: bytes past the body's end count as 0.
 ghost use mathlib.Core.Path.{_≡_};
 ghost use Prim.Native.Nat.{_≤_};
-ghost use Rattle.records.specs.Fields.{dateAt, startAt, minuteAt, bit0, bit1, datedOf, repeatOf, weeklyOf, monthlyByDateOf, monthlyByPositionOf, yearlyOf, checkOffOf, toDoOf, recordOf, fixedOf, textLength, noteLength};
+ghost use Rattle.records.specs.Fields.{dateAt, bit0, bit1, datedOf, repeatOf, weeklyOf, monthlyByDateOf, monthlyByPositionOf, yearlyOf, checkOffOf, toDoOf, recordOf, fixedOf, textLength, noteLength};
 use crate::types::CheckOff;
 use crate::types::Dated;
 use crate::types::MonthlyByDate;

@@ -1,6 +1,6 @@
 //! The book reader of the proved library.
 
-use crate::book::Book;
+use crate::book::{Book, Settings};
 use crate::days::Date;
 use crate::records::{Entry, Record, Rule, Times};
 use crate::refusal::Refusal;
@@ -159,5 +159,39 @@ impl RecordAnswer {
 
     fn times(self, Times { start, end, lead }: Times) -> Self {
         RecordAnswer { start, end, lead, ..self }
+    }
+}
+
+// What was read can be handed on to the writing calls as it is, so here is the way back.
+
+impl BookAnswer {
+    pub fn settings(self) -> Settings {
+        let BookAnswer { start, granularity, alarm, lead, carry_forward, .. } = self;
+        Settings { start, granularity, alarm, lead, carry_forward }
+    }
+}
+
+impl RecordAnswer {
+    /// The entry of its kind, whether in range or not, and nothing of the fields that the kind does not
+    /// have; None where there is none: a kind unknown, or a date of check-off in a to-do not checked off.
+    pub fn entry(self) -> Option<Entry> {
+        let RecordAnswer { weekday, week, month, day, priority, start, end, lead, .. } = self;
+        let date = |year, month, day| Date { year, month, day };
+        let first = date(self.first_year, self.first_month, self.first_day);
+        let last = date(self.last_year, self.last_month, self.last_day);
+        let done = date(self.check_off_year, self.check_off_month, self.check_off_day);
+        let times = Times { start, end, lead };
+        let repeated = |rule| Some(Entry::Repeated { rule, first, last, times });
+        let to_do = |check_off| Some(Entry::ToDo { priority, start: first, check_off });
+        match self.kind {
+            1 => Some(Entry::Dated { date: first, times }),
+            2 => repeated(Rule::Weekly { weekday }),
+            3 => repeated(Rule::MonthlyByDate { day }),
+            4 => repeated(Rule::MonthlyByPosition { week, weekday }),
+            5 => repeated(Rule::Yearly { month, day }),
+            6 if self.checked_off => to_do(Some(done)),
+            6 => to_do(None),
+            _ => None,
+        }
     }
 }

@@ -1,5 +1,5 @@
 //! The proved library, as `include/apptbook.h` declares it. Each answer begins with a refusal's number
-//! (0: accepted) and its place; on a refusal all else in it is 0.
+//! (0: accepted) and its place; on a refusal all else in it is 0, but a writing state comes back as it was.
 //!
 //! An answer can be made from the reference's `Result`, so that a comparison sees every field.
 
@@ -19,3 +19,4 @@ macro_rules! answer_of_result {
 
 pub mod book;
 pub mod days;
+pub mod writer;

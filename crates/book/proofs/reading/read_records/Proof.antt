@@ -2,16 +2,15 @@
 -- Assumes nothing.
 use borrow.Author.Needs.{needs}
 use native.Mathlib.Omega.{arith}
-use Rattle.prelude.specs.Choice.{picks}
-use Prim.Native.Nat.{ℕ, suc, _+_, _-_, _≤_}
+use Prim.Native.Nat.{ℕ, _+_, _-_}
 use mathlib.Core.Path.{_≡_, refl, sym, _∙_, ap}
 use mathlib.Core.List.{List}
 use native.Mathlib.Numerals.{add-one}
 use lib.ListN.{length}
-use Rattle.book.specs.Walk.{stepAt, Walk, more, walkFrom, walkOf, nextPlace, lengthAt}
+use Rattle.book.specs.Walk.{stepAt, walkFrom, walkOf, nextPlace}
 use Rattle.book.specs.Books.{afterEndRecord, accepted, counted}
 use Rattle.book.specs.Settings.{settingsOf}
-use Rattle.book.specs.WalkLaws.{At, at-first, at-next, RecordAt, step-record, step-end, walk-record, walk-end, walk-stop}
+use Rattle.book.specs.WalkLaws.{At, at-first, at-next, RecordAt, step-record, walk-record, walk-end, walk-stop}
 use Rattle.book.specs.declared.types.StepAnswer.{StepAnswer}
 use Rattle.book.proofs.reading.read_records.Statement.{statement}
 use Rattle.book.proofs.reading.read_records.Tie as tie

@@ -4,10 +4,10 @@ use native.Mathlib.Omega.{arith}
 use mathlib.Core.Path.{_≡_, refl, sym, _∙_, ap}
 use Prim.Native.Nat.{ℕ, _+_, _≤_}
 use mathlib.Core.List.{List}
-use lib.ListN.{length, getD}
+use lib.ListN.{length}
 use native.Mathlib.Nat.{add-sub-cancel-left}
 use Rattle.prelude.specs.Choice.{eq-yes, eq-no}
-use Rattle.prelude.specs.Refusals.{cutShort, refusalAt}
+use Rattle.prelude.specs.Refusals.{refusalAt}
 use Rattle.book.specs.Walk.{typeAt, lengthAt, judgeHead, stepAt}
 use Rattle.book.specs.WalkLaws.{HeadFine, head-fine, head-short}
 use Rattle.book.specs.declared.types.StepAnswer.{StepAnswer}

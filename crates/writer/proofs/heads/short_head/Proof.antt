@@ -1,0 +1,97 @@
+-- `short_head` meets its contract: byte by byte, what its callees give.
+-- Assumes nothing.
+use Rattle.prelude.specs.Bytes.{le16, be16}
+use Rattle.records.specs.Encoding.{dateBytes, tailBytes, fromStart}
+use borrow.Author.Needs.{needs}
+use Rattle.writer.proofs.heads.short_head.Statement.{statement}
+use Rattle.writer.proofs.heads.short_head.Tie as tie
+
+add-l : tie.Need-add-l
+add-l c = search needs
+
+add-l-2 : tie.Need-add-l-2
+add-l-2 c = search needs
+
+low-requires : tie.Need-low-requires
+low-requires c κs = search needs
+
+high-requires : tie.Need-high-requires
+high-requires c κs = search needs
+
+flag-requires : tie.Need-flag-requires
+flag-requires c κs = search needs
+
+small-requires : tie.Need-small-requires
+small-requires c κs = search needs
+
+high-requires-2 : tie.Need-high-requires-2
+high-requires-2 c κs = search needs
+
+low-requires-2 : tie.Need-low-requires-2
+low-requires-2 c κs = search needs
+
+year-requires : tie.Need-year-requires
+year-requires c κs = search needs
+
+small-requires-2 : tie.Need-small-requires-2
+small-requires-2 c κs = search needs
+
+small-requires-3 : tie.Need-small-requires-3
+small-requires-3 c κs = search needs
+
+low-requires-3 : tie.Need-low-requires-3
+low-requires-3 c κs = search needs
+
+high-requires-3 : tie.Need-high-requires-3
+high-requires-3 c κs = search needs
+
+year-requires-2 : tie.Need-year-requires-2
+year-requires-2 c κs = search needs
+
+small-requires-4 : tie.Need-small-requires-4
+small-requires-4 c κs = search needs
+
+small-requires-5 : tie.Need-small-requires-5
+small-requires-5 c κs = search needs
+
+small-requires-6 : tie.Need-small-requires-6
+small-requires-6 c κs = search needs
+
+small-requires-7 : tie.Need-small-requires-7
+small-requires-7 c κs = search needs
+
+low-requires-4 : tie.Need-low-requires-4
+low-requires-4 c κs = search needs
+
+high-requires-4 : tie.Need-high-requires-4
+high-requires-4 c κs = search needs
+
+returns : tie.Need-returns
+unfolding fromStart tailBytes dateBytes le16 be16
+returns c = cc
+
+pub short-head-spec : {M : Type 1} → statement M
+short-head-spec =
+    tie.close
+    (tie.spec
+    add-l
+    add-l-2
+    low-requires
+    high-requires
+    flag-requires
+    small-requires
+    high-requires-2
+    low-requires-2
+    year-requires
+    small-requires-2
+    small-requires-3
+    low-requires-3
+    high-requires-3
+    year-requires-2
+    small-requires-4
+    small-requires-5
+    small-requires-6
+    small-requires-7
+    low-requires-4
+    high-requires-4
+    returns)

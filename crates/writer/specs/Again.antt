@@ -1,0 +1,38 @@
+-- A book as it is read to be written again, document 01: its records with their texts and notes, and when it is plain.
+-- Assumes nothing.
+use Prim.Native.Nat.{ℕ, _+_}
+use mathlib.Core.Path.{_≡_}
+use mathlib.Core.Bool.{true}
+use mathlib.Core.List.{List, [], _∷_, map}
+use Rattle.records.specs.Fields.{recordOf, fixedOf, textLength, noteLength, textOf, noteOf}
+use Rattle.records.specs.AgainLaws.{plainState}
+use Rattle.book.specs.Walk.{typeAt, lengthAt, bodyAt}
+use Rattle.book.specs.Books.{placesOf}
+use Rattle.writer.specs.Runs.{Item}
+
+-- the record at a place, with its text and its note
+unfoldable pub itemAt : List ℕ → ℕ → Item
+itemAt f at =
+    record {
+      kind = recordOf (typeAt f at) (bodyAt f at);
+      text = textOf (typeAt f at) (bodyAt f at);
+      note = noteOf (typeAt f at) (bodyAt f at);
+    }
+
+-- the records of a book, in the book's order
+unfoldable pub itemsOf : List ℕ → List Item
+itemsOf f = map (itemAt f) (placesOf f)
+
+-- "padding up to L, ignored and never written": there is none; "other bits are ignored when read and written as 0": none is set
+pub record PlainAt (f : List ℕ) (at : ℕ) : Type 0 where
+  pub tight : lengthAt f at ≡ fixedOf (typeAt f at) + textLength (typeAt f at) (bodyAt f at) + noteLength (typeAt f at) (bodyAt f at)
+  pub named : plainState (typeAt f at) (bodyAt f at) ≡ true
+
+-- what holds at each place of a list
+abbrev pub Each : (ℕ → Type 0) → List ℕ → Type 0
+Each P [] = Unit {0}
+Each P (at ∷ places) = P at × Each P places
+
+-- a book without padding and unnamed bits
+abbrev pub Plain : List ℕ → Type 0
+Plain f = Each (PlainAt f) (placesOf f)

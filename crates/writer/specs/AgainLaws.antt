@@ -1,0 +1,92 @@
+-- The items of an accepted book are what the reader's calls give: as many as it counts, and each with the record, the text and the note of its number.
+-- Assumes nothing.
+use Prim.Native.Nat.{ℕ, zero, suc, _+_, _≤_, _<_}
+use mathlib.Core.Path.{_≡_, refl, sym, ap, _∙_}
+use mathlib.Core.List.{List, [], _∷_}
+use native.Mathlib.Omega.{arith}
+use lib.ListN.{length, getD, take, drop, length-map, List·getD-map}
+use lib.Seq.{take-take, drop-drop}
+use Rattle.prelude.specs.Choice.{is-lt}
+use Rattle.prelude.specs.Bytes.{part}
+use Rattle.records.specs.Fields.{fixedOf, textLength, noteLength}
+use Rattle.records.specs.JudgeLaws.{Judged, judged}
+use Rattle.book.specs.Walk.{typeAt, lengthAt, bodyAt}
+use Rattle.book.specs.Books.{bookOf, entryAt, placesOf, recordFrom, recordAnswer, textIn, noteIn}
+use Rattle.book.specs.WalkLaws.{RecordAt}
+use Rattle.book.specs.BookLaws.{AcceptedBook, book-accepted}
+use Rattle.book.specs.EntryLaws.{record-there}
+use Rattle.book.specs.declared.types.Book.{Book}
+use Rattle.book.specs.declared.types.BookAnswer.{BookAnswer}
+use Rattle.book.specs.declared.types.Entry.{Entry}
+use Rattle.book.specs.declared.types.RecordAnswer.{RecordAnswer}
+use Rattle.writer.specs.Runs.{Item}
+use Rattle.writer.specs.Again.{itemAt, itemsOf}
+
+-- a stretch of a stretch
+inner : (a n m : ℕ) (s : List ℕ) → a + n ≤ m → take n (drop a (take m s)) ≡ take n (drop a s)
+inner zero n m s h = take-take n m s (omega arith)
+inner (suc a) n zero s h = absurd (omega arith)
+inner (suc a) n (suc m) [] h = refl
+inner (suc a) n (suc m) (x ∷ s) h = inner a n m s (omega arith)
+
+part-part : (s : List ℕ) (p m a n : ℕ) → a + n ≤ m → part (part s p m) a n ≡ part s (p + a) n
+part-part s p m a n h = inner a n m (drop p s) h ∙ ap (take n) (drop-drop a p s)
+
+length-take-most : (m : ℕ) (s : List ℕ) → length (take m s) ≤ m
+length-take-most zero s = omega arith
+length-take-most (suc m) [] = omega arith
+length-take-most (suc m) (x ∷ s) = omega (arith, length-take-most m s)
+
+pub item-kind : (f : List ℕ) (at : ℕ) → entryAt f at .«record» ≡ itemAt f at .kind
+unfolding entryAt itemAt
+item-kind f at = refl
+
+module _ (f : List ℕ) (at : ℕ) (r : RecordAt f at) where
+  within : fixedOf (typeAt f at) + textLength (typeAt f at) (bodyAt f at) + noteLength (typeAt f at) (bodyAt f at) ≤ lengthAt f at
+  within =
+      let j : Judged (typeAt f at) (bodyAt f at) = judged (typeAt f at) (bodyAt f at) (r .fine) in
+      omega (arith, j .fits, length-take-most (lengthAt f at) (drop (at + 3) f))
+
+  pub item-text : textIn f (RecordAnswer.Record (entryAt f at)) ≡ itemAt f at .text
+  unfolding textIn entryAt itemAt
+  item-text = sym (part-part f (at + 3) (lengthAt f at) (fixedOf (typeAt f at)) (textLength (typeAt f at) (bodyAt f at)) (omega (arith, within)))
+
+  pub item-note : noteIn f (RecordAnswer.Record (entryAt f at)) ≡ itemAt f at .note
+  unfolding noteIn entryAt itemAt
+  item-note =
+      let e : at + 3 + (fixedOf (typeAt f at) + textLength (typeAt f at) (bodyAt f at)) ≡ at + 3 + fixedOf (typeAt f at) + textLength (typeAt f at) (bodyAt f at) = omega arith in
+      sym (part-part f (at + 3) (lengthAt f at) (fixedOf (typeAt f at) + textLength (typeAt f at) (bodyAt f at)) (noteLength (typeAt f at) (bodyAt f at)) within ∙ ap (λ (p : ℕ). part f p (noteLength (typeAt f at) (bodyAt f at))) e)
+
+-- the calls at a number, and an item
+pub record ReadAs (f : List ℕ) (k : ℕ) (i : Item) : Type 0 where
+  pub entry : Entry
+  pub answer : recordAnswer f k ≡ RecordAnswer.Record entry
+  pub kind : entry .«record» ≡ i .kind
+  pub text : textIn f (recordAnswer f k) ≡ i .text
+  pub note : noteIn f (recordAnswer f k) ≡ i .note
+
+item-read : (f : List ℕ) (k at : ℕ) → RecordAt f at → recordAnswer f k ≡ RecordAnswer.Record (entryAt f at) → ReadAs f k (itemAt f at)
+item-read f k at r e =
+    record {
+      entry = entryAt f at;
+      answer = e;
+      kind = item-kind f at;
+      text = ap (textIn f) e ∙ item-text f at r;
+      note = ap (noteIn f) e ∙ item-note f at r;
+    }
+
+module _ (f : List ℕ) {b : Book} (h : bookOf f ≡ BookAnswer.Accepted b) where
+  pub items-count : length (itemsOf f) ≡ b .records
+  unfolding itemsOf
+  items-count = length-map (placesOf f) (itemAt f) ∙ sym (book-accepted f h .count)
+
+  answered : (k : ℕ) → k < b .records → recordAnswer f k ≡ RecordAnswer.Record (entryAt f (getD (placesOf f) k 0))
+  unfolding recordAnswer recordFrom
+  answered k l = ap (recordFrom f k) h ∙ is-lt l _ _
+
+  pub items-read : (k : ℕ) → k < b .records → ReadAs f k (getD (itemsOf f) k (itemAt f 0))
+  unfolding itemsOf
+  items-read k l =
+      let a : AcceptedBook f b = book-accepted f h in
+      let r : RecordAt f (getD (placesOf f) k 0) = record-there f (a .long) k (omega (arith, a .count)) in
+      rw (List·getD-map (itemAt f) (placesOf f) k 0) (item-read f k (getD (placesOf f) k 0) r (answered k l))

@@ -1,0 +1,81 @@
+-- Writing a book, document 01 "Writing": what each call gives, and what it leaves in the buffer.
+-- Assumes nothing.
+use Prim.Native.Nat.{ℕ, _+_}
+use mathlib.Core.Bool.{Bool, true, false}
+use mathlib.Core.List.{List, [], _∷_, _++_}
+use lib.ListN.{length}
+use Rattle.prelude.specs.Choice.{ifLt, ifEq, ifB}
+use Rattle.prelude.specs.Bytes.{le16}
+use Rattle.prelude.specs.Splice.{splice}
+use Rattle.prelude.specs.Refusals.{badSettings, badLength, badField, badText, noRoom, notOpen, refusal}
+use Rattle.records.specs.Ranges.{recordOk}
+use Rattle.records.specs.Notes.{noZero, noteOk}
+use Rattle.records.specs.Encoding.{stateByte, encode}
+use Rattle.records.specs.declared.types.Record.{Record}
+use Rattle.book.specs.Settings.{settingsInRange}
+use Rattle.book.specs.declared.types.Settings.{Settings}
+use Rattle.writer.specs.declared.types.Writer.{Writer}
+use Rattle.writer.specs.declared.types.WriteAnswer.{WriteAnswer}
+
+-- done with the next state where the number is 0, else refused with the state that came
+unfoldable pub gives : ℕ → Writer → Writer → WriteAnswer
+gives n next came = ifEq n 0 (WriteAnswer.Done next) (WriteAnswer.Refused (refusal n) came)
+
+-- the buffer with bytes written at a place where the number is 0, else as it was
+unfoldable pub leaves : ℕ → List ℕ → ℕ → List ℕ → List ℕ
+leaves n buffer at bytes = ifEq n 0 (splice buffer at bytes) buffer
+
+-- "Identification, 5 bytes"; "Settings, 7 bytes"
+unfoldable pub openBytes : Settings → List ℕ
+openBytes s =
+    0xFF ∷ (0xFF ∷ (0x01 ∷ (0x00 ∷ (0x01 ∷ (le16 (s .start .0) ++ (le16 (s .granularity) ++ (stateByte (s .alarm) ∷ (s .lead ∷ (stateByte (s .«carry_forward») ∷ [])))))))))
+
+-- "open (3, then 12)": "Open needs 15 bytes of room"
+unfoldable pub openRefusal : Settings → ℕ → ℕ
+openRefusal s size = ifB (settingsInRange s) (ifLt size 15 noRoom 0) badSettings
+
+unfoldable pub openGives : Settings → ℕ → WriteAnswer
+openGives s size = gives (openRefusal s size) (record { used = 12; closed = false }) (record { used = 0; closed = false })
+
+unfoldable pub openLeaves : Settings → List ℕ → List ℕ
+openLeaves s b = leaves (openRefusal s (length b)) b 0 (openBytes s)
+
+-- "used + record + 3 exceeds the buffer or 65,535"
+unfoldable pub roomRefusal : ℕ → ℕ → ℕ
+roomRefusal size end = ifLt size (end + 3) noRoom (ifLt 65535 (end + 3) noRoom 0)
+
+-- "used below 12 counts as not opened"
+unfoldable pub stateOpen : Writer → Bool
+stateOpen w = ifLt (w .used) 12 false (ifB (w .closed) false true)
+
+-- "add (14, 6, 7, 8, 12)"; "Added texts over 27 give 6"
+unfoldable pub addRefusal : Writer → ℕ → Record → List ℕ → List ℕ → ℕ
+addRefusal w size r text note =
+    ifB (stateOpen w)
+    (ifLt 27 (length text) badLength
+    (ifB (recordOk r)
+    (ifB (noZero text)
+    (ifB (noteOk note) (roomRefusal size (w .used + length (encode r text note))) badText)
+    badText)
+    badField))
+    notOpen
+
+unfoldable pub addGives : Writer → ℕ → Record → List ℕ → List ℕ → WriteAnswer
+addGives w size r text note =
+    gives (addRefusal w size r text note) (record { used = w .used + length (encode r text note); closed = false }) w
+
+unfoldable pub addLeaves : Writer → List ℕ → Record → List ℕ → List ℕ → List ℕ
+addLeaves w b r text note = leaves (addRefusal w (length b) r text note) b (w .used) (encode r text note)
+
+-- "close (14, 12)": the end record, "32 00 00"
+abbrev pub endBytes : List ℕ
+endBytes = 0x32 ∷ (0x00 ∷ (0x00 ∷ []))
+
+unfoldable pub closeRefusal : Writer → ℕ → ℕ
+closeRefusal w size = ifB (stateOpen w) (roomRefusal size (w .used)) notOpen
+
+unfoldable pub closeGives : Writer → ℕ → WriteAnswer
+closeGives w size = gives (closeRefusal w size) (record { used = w .used + 3; closed = true }) w
+
+unfoldable pub closeLeaves : Writer → List ℕ → List ℕ
+closeLeaves w b = leaves (closeRefusal w (length b)) b (w .used) endBytes
