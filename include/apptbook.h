@@ -4,7 +4,7 @@
  * C header of the proved library libcabi.a (x86-64). No call keeps anything between calls, allocates
  * memory or has a precondition: every argument gets an answer. A file is lent as a pointer and a number of
  * bytes; so many must be there, and whatever they are gets an answer too. A call reads them and changes none.
- * Only the buffer that a book is written into is changed, as said there.
+ * Only a buffer that is lent to be written into is changed, as said at the call.
  *
  * An answer is a struct by value. It begins with
  *   number   APPTBOOK_ACCEPTED (0), or the number of the refusal;
@@ -296,6 +296,154 @@ apptbook_writer apptbook_add(apptbook_writer state, uint8_t *buffer, size_t len,
  *   12  used + 3 is more than len or 65,535.
  */
 apptbook_writer apptbook_close(apptbook_writer state, uint8_t *buffer, size_t len);
+
+/*
+ * Day pages and the next occurrence.
+ *
+ * A dated record falls on its date, a to-do on no day. The others fall on days from their first to their
+ * last date, and of these
+ *   weekly ones               on their weekday;
+ *   monthly ones by position  on their weekday when (day of the month - 1) / 7 + 1, rounded down, is their
+ *                             week; week 5 is never the last one of a month that has only four;
+ *   monthly ones by date      on their day of the month;
+ *   yearly ones               on their month and day.
+ * Where a month does not have the day of one of the last two kinds, the short-month choice decides, handed
+ * over as `last`: false (skip) shows the record on no day of that month, true (last) on the month's last day.
+ * It plays no other part. Who has no wish hands over false.
+ *
+ * A page lists the records that fall on a day by start minute, and by their numbers where that is equal. Its
+ * lines count from 0.
+ *
+ * Each call judges the whole file first and refuses it with 1 to 9, as said above. Then come, each with
+ * place 0 and in this order: APPTBOOK_OUT_OF_RANGE (11) for a day over 43,829, APPTBOOK_NO_SUCH_NUMBER (10),
+ * APPTBOOK_NO_ROOM (12).
+ */
+
+typedef struct apptbook_falls_answer {
+    uint32_t number;
+    size_t place;
+    bool falls;
+} apptbook_falls_answer;
+
+typedef struct apptbook_occurrence_answer {
+    uint32_t number;
+    size_t place;
+    uint32_t looked; /* how many days were looked at */
+    uint16_t day;    /* the day that was found, 0 where none was */
+    bool found;
+} apptbook_occurrence_answer;
+
+typedef struct apptbook_count_answer {
+    uint32_t number;
+    size_t place;
+    size_t count; /* of what the call says */
+} apptbook_count_answer;
+
+typedef struct apptbook_page_line_answer {
+    uint32_t number;
+    size_t place;
+    size_t record;      /* number of the record */
+    size_t text_at;     /* place of its text in the file */
+    size_t text_length; /* 0 to 27 */
+    uint16_t start;     /* start minute */
+    uint16_t end;       /* end minute */
+    bool alarm;         /* alarm on */
+} apptbook_page_line_answer;
+
+/* Whether a record falls on a day. Refused with 11, then with 10 when there is no such record. */
+apptbook_falls_answer apptbook_falls_on(const uint8_t *file, size_t len, size_t record, uint16_t day,
+                                        bool last);
+
+/*
+ * The first day at or after the asked one on which a record falls; looked is then that day - day + 1.
+ * Where there is none up to 43,829, found is false, day is 0 and looked is 43,830 - day: number is 0 in this
+ * case too. Refused with 11, then with 10 when there is no such record.
+ */
+apptbook_occurrence_answer apptbook_next_occurrence(const uint8_t *file, size_t len, size_t record,
+                                                    uint16_t day, bool last);
+
+/* How many lines the page of a day has. Refused with 11. */
+apptbook_count_answer apptbook_page_lines(const uint8_t *file, size_t len, uint16_t day, bool last);
+
+/* A line of the page of a day. Refused with 11, then with 10 when the page has no such line. */
+apptbook_page_line_answer apptbook_page_line(const uint8_t *file, size_t len, uint16_t day, bool last,
+                                             size_t line);
+
+/* How many bytes the printed page of a day has. Refused with 11. */
+apptbook_count_answer apptbook_page_length(const uint8_t *file, size_t len, uint16_t day, bool last);
+
+/*
+ * Prints the page of a day into the lent buffer; count is the number of bytes written:
+ *
+ *   1993-03-15 Mon 1
+ *   10:00-11:00 Dep
+ *
+ * first the date, the weekday (Sun to Sat) and the number of lines, then for each line start, end and text.
+ * Each ends by the byte 0Ah, also the last one. The text's bytes are printed as they are; an empty text
+ * leaves the space before it. No zero byte is added. The buffer may not lie in the file.
+ *
+ * Refused with 11, then with 12 when the buffer is shorter than the page; no byte is then changed. Otherwise
+ * only the bytes that are written are changed.
+ */
+apptbook_count_answer apptbook_print_page(const uint8_t *file, size_t len, uint16_t day, bool last,
+                                          uint8_t *buffer, size_t buffer_len);
+
+/*
+ * The Calendar file.
+ *
+ * A Windows Calendar file has a head of 64 bytes, a table with a descriptor of 12 bytes for each of its days,
+ * and day blocks, each at a multiple of 64, with the day's notes and appointments. Only the days and their
+ * appointments are read; reserved bytes, the six settings of the head, marks, alarm counts and notes are
+ * ignored. Blocks may stand in any order, with gaps between them; the file's length need not be a multiple of
+ * 64, and bytes may follow the last block.
+ *
+ * Each call judges the whole file first and refuses it with APPTBOOK_CALENDAR_TOO_LONG (20) to
+ * APPTBOOK_BAD_APPOINTMENT (24). Of several faults the first in this order counts: 20; 21; 22 for the table's
+ * length; 22 descriptor by descriptor; then day by day 23 and 24. The place is 0 for 20 and 21, 64 for the
+ * table's length, the descriptor's first byte for a day (22) and for its block (23), and the appointment's
+ * first byte for 24.
+ *
+ * Then come, each with place 0 and in this order: APPTBOOK_OUT_OF_RANGE (11) for a day over 43,829,
+ * APPTBOOK_NO_SUCH_NUMBER (10).
+ *
+ * Descriptors count from 0, and so do the appointments of a day. A day that has no descriptor has no
+ * appointments. Texts hold no zero byte and end without one.
+ */
+
+/* The flags of an appointment, which may be added. */
+enum {
+    APPTBOOK_FLAG_ALARM = 1,       /* alarm on */
+    APPTBOOK_FLAG_SPECIAL_TIME = 2 /* at a special time, which is not a multiple of the file's interval */
+};
+
+typedef struct apptbook_descriptor_answer {
+    uint32_t number;
+    size_t place;
+    uint16_t day;    /* a Calendar day */
+    uint16_t offset; /* of its block in units of 64 bytes, as it is stored */
+} apptbook_descriptor_answer;
+
+typedef struct apptbook_appointment_answer {
+    uint32_t number;
+    size_t place;
+    size_t text_at;     /* place of the text in the file */
+    size_t text_length; /* 0 to 250 */
+    uint16_t minute;    /* 0 to 1,439, not below that of the appointment before */
+    uint16_t flags;     /* 0 to 3 */
+} apptbook_appointment_answer;
+
+/* How many descriptors the file has: its days. */
+apptbook_count_answer apptbook_read_calendar(const uint8_t *file, size_t len);
+
+/* The day and the block offset of a descriptor. Refused with 10 when there are not so many. */
+apptbook_descriptor_answer apptbook_calendar_day(const uint8_t *file, size_t len, size_t descriptor);
+
+/* How many appointments a day has. Refused with 11. */
+apptbook_count_answer apptbook_calendar_appointments(const uint8_t *file, size_t len, uint16_t day);
+
+/* An appointment of a day. Refused with 11, then with 10 when the day has no such appointment. */
+apptbook_appointment_answer apptbook_calendar_appointment(const uint8_t *file, size_t len, uint16_t day,
+                                                          size_t appointment);
 
 #ifdef __cplusplus
 }

@@ -62,7 +62,7 @@ pub fn note_line(file: &[u8], number: usize, line: usize) -> Result<Range<usize>
 }
 
 /// Judges the file, and shows each record in turn.
-fn read(file: &[u8], mut show: impl FnMut(Record)) -> Result<Settings, Refusal> {
+pub(crate) fn read(file: &[u8], mut show: impl FnMut(Record)) -> Result<Settings, Refusal> {
     if file.len() > LONGEST {
         return Err(Refusal { number: 1, place: 0 });
     }

@@ -2,12 +2,16 @@
 
 mod damage;
 mod drafts;
+mod near;
+mod spans;
 
 use crate::book::{IDENTIFICATION, LONGEST};
 use crate::rng::Rng;
 pub use damage::{changes, Change, DAMAGES};
-pub use drafts::{full_note, letters, Draft, File, SETTINGS};
-use drafts::{low_first, Field};
+use drafts::low_first;
+pub use drafts::{full_note, letters, Draft, Field, File, SETTINGS};
+pub use near::{book_near, edge_day, near};
+pub use spans::{book_of_span, crowded, Span, CROWDED_SPAN};
 
 pub struct Case {
     pub name: String,

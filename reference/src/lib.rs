@@ -2,15 +2,23 @@
 //! to be compared with the proved library.
 //!
 //! One module for each layer: `days` here is the plain one, `ffi::days` the proved one. Beside them:
-//! `vectors`, books written out by hand, `books`, which makes them at random, and `writings`, which makes
-//! runs of writing calls.
+//! `vectors`, files written out by hand; `books` and `calendars`, which make files at random, and `writings`,
+//! which makes runs of writing calls; `civil` and `occurrences`, a third way to compute dates and when a
+//! record falls.
 
 pub mod book;
 pub mod books;
+pub mod calendar;
+pub mod calendars;
 pub mod civil;
 pub mod days;
+pub mod export;
 pub mod ffi;
 pub mod notes;
+pub mod occurrences;
+pub mod pages;
+pub mod printed;
+pub mod program;
 pub mod records;
 pub mod refusal;
 pub mod rng;

@@ -16,5 +16,8 @@ pub const OUT_OF_RANGE: Refusal = Refusal { number: 11, place: 0 };
 /// 12: lent buffer shorter than what is to be written, or a book that would be over 65,535 bytes.
 pub const NO_ROOM: Refusal = Refusal { number: 12, place: 0 };
 
+/// 13: a day's block would start at block 32,768 or later.
+pub const TOO_MANY_BLOCKS: Refusal = Refusal { number: 13, place: 0 };
+
 /// 14: writing state not opened or already closed.
 pub const NOT_OPEN: Refusal = Refusal { number: 14, place: 0 };

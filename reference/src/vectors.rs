@@ -1,4 +1,10 @@
-//! Books written out by hand, byte for byte, with what a reader is to give.
+//! Books written out by hand, byte for byte, with what a reader is to give; Calendar files, pages and command
+//! lines in the files beside.
+
+pub mod calendars;
+pub mod commands;
+pub mod exports;
+pub mod pages;
 
 use crate::days::Date;
 use crate::records::{Entry, Record, Rule, Times};

@@ -140,3 +140,113 @@ same 1
         assert_eq!(in_cpp("writer.c"), expected());
     }
 }
+
+mod pages {
+    use super::{in_c99, in_cpp};
+    use reference::ffi::pages::{CountAnswer, FallsAnswer, OccurrenceAnswer, PageLineAnswer};
+
+    fn expected() -> String {
+        let sizes = [
+            size_of::<FallsAnswer>(),
+            size_of::<OccurrenceAnswer>(),
+            size_of::<CountAnswer>(),
+            size_of::<PageLineAnswer>(),
+        ];
+        format!("sizes {}\n{CALLS}", sizes.map(|size| size.to_string()).join(" "))
+    }
+
+    const CALLS: &str = "\
+falls_on 0 0 1
+falls_on 0 0 0
+falls_on 0 0 1
+falls_on 10 0 0
+next_occurrence 0 0 61 4899 1
+next_occurrence 0 0 30 4868 1
+next_occurrence 0 0 39007 0 0
+next_occurrence 11 0 0 0 0
+page_lines 0 0 1
+page_lines 4 49 0
+page_line 0 0 record 0 text 27 3 times 600 660 alarm 1 Dep
+page_line 10 0 record 0 text 0 0 times 0 0 alarm 0\u{20}
+page_length 0 0 30
+print_page 12 0 0
+untouched 1
+print_page 0 0 30
+1993-03-31 Wed 1
+00:00-00:00\u{20}
+#
+";
+
+    #[test]
+    fn the_header_works_in_c99() {
+        assert_eq!(in_c99("pages.c"), expected());
+    }
+
+    #[test]
+    fn the_header_works_in_cpp() {
+        assert_eq!(in_cpp("pages.c"), expected());
+    }
+}
+
+mod calendar {
+    use super::{in_c99, in_cpp};
+    use reference::ffi::calendar::{AppointmentAnswer, DescriptorAnswer};
+
+    fn expected() -> String {
+        let sizes = [size_of::<DescriptorAnswer>(), size_of::<AppointmentAnswer>()];
+        format!("sizes {}\n{CALLS}", sizes.map(|size| size.to_string()).join(" "))
+    }
+
+    const CALLS: &str = "\
+flags 1 2
+read_calendar 0 0 1
+read_calendar 21 0 0
+read_calendar 22 64 0
+read_calendar 23 64 0
+calendar_day 0 0 4822 2
+calendar_day 10 0 0 0
+calendar_appointments 0 0 1
+calendar_appointments 0 0 0
+calendar_appointments 11 0 0
+calendar_appointment 0 0 text 142 3 minute 600 flags 1 Dep
+calendar_appointment 10 0 text 0 0 minute 0 flags 0\u{20}
+calendar_appointment 11 0 text 0 0 minute 0 flags 0\u{20}
+";
+
+    #[test]
+    fn the_header_works_in_c99() {
+        assert_eq!(in_c99("calendar.c"), expected());
+    }
+
+    #[test]
+    fn the_header_works_in_cpp() {
+        assert_eq!(in_cpp("calendar.c"), expected());
+    }
+}
+
+#[cfg(feature = "export")]
+mod export {
+    use super::{in_c99, in_cpp};
+
+    const CALLS: &str = "\
+export 4 30 0
+export 11 0 0
+export 12 0 0
+untouched 1
+export 0 0 64
+export 0 0 192
+read_calendar 0 0 1
+calendar_appointment 0 0 600 1 Dep
+untouched 1
+";
+
+    #[test]
+    fn the_header_works_in_c99() {
+        assert_eq!(in_c99("export.c"), CALLS);
+    }
+
+    #[test]
+    fn the_header_works_in_cpp() {
+        assert_eq!(in_cpp("export.c"), CALLS);
+    }
+}

@@ -5,5 +5,6 @@ pub mod Books
 pub mod WalkLaws
 pub mod BookLaws
 pub mod EntryLaws
+pub mod CountLaws
 pub mod Lines
 pub mod Examples

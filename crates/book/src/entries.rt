@@ -58,7 +58,7 @@ pub fn entry_at(file: &[u8], at: usize) -> Entry
 }
 
 // The place of a record by its number, from length to length.
-fn place_of(file: &[u8], k: usize) -> usize
+pub fn place_of(file: &[u8], k: usize) -> usize
     requires { ⌜ 12 ≤ length (now file) ⌝ }
     requires { ⌜ k < length (placesOf (now file)) ⌝ }
     ensures { λ r. ⌜ (r ≡ getD (placesOf (now (file .entry))) k 0) × (r ≤ length (now (file .entry))) ⌝ }

@@ -3,3 +3,5 @@ pub mod DaysCalls
 pub mod BookCalls
 pub mod RecordAnswers
 pub mod WriterCalls
+pub mod PageCalls
+pub mod CalendarCalls

@@ -1,5 +1,7 @@
 // The static library: every public call of the layers below, for C and Rust to link. include/apptbook.h is its header.
 pub mod book_calls;
+pub mod calendar_calls;
 pub mod days_calls;
+pub mod page_calls;
 pub mod record_answers;
 pub mod writer_calls;

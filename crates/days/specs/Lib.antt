@@ -8,5 +8,4 @@ pub mod DayLaws
 pub mod OrderLaws
 pub mod FactsLaws
 pub mod AnswerLaws
-pub mod Examples
 pub mod Table

@@ -3,5 +3,6 @@ pub mod Choice
 pub mod Refusals
 pub mod Bytes
 pub mod Splice
+pub mod Grown
 pub mod Keep
 pub mod Order

@@ -18,5 +18,9 @@ macro_rules! answer_of_result {
 }
 
 pub mod book;
+pub mod calendar;
 pub mod days;
+#[cfg(feature = "export")]
+pub mod export;
+pub mod pages;
 pub mod writer;

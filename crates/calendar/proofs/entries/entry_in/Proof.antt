@@ -1,0 +1,76 @@
+-- `entry_in` meets its contract: a cursor walks the list up to appointment k, or to its end.
+-- Assumes nothing.
+use Prim.Native.Nat.{ℕ, _-_, _≤_}
+use mathlib.Core.Path.{_≡_, refl, sym, _∙_, ap}
+use native.Mathlib.Numerals.{add-one}
+use lib.ListN.{getD}
+use Rattle.prelude.specs.Choice.{lt-yes, lt-no}
+use Rattle.calendar.specs.Lists.{walkFrom, placesIn}
+use Rattle.calendar.specs.Shown.{entryAt, entryOf}
+use Rattle.calendar.specs.EntryLaws.{Cursor, cursor-first, Ahead, cursor-ahead, cursor-done}
+use Rattle.calendar.specs.declared.types.EntryAnswer.{EntryAnswer}
+use native.Mathlib.Omega.{arith}
+use Rattle.calendar.proofs.entries.entry_in.Statement.{statement}
+use Rattle.calendar.proofs.entries.entry_in.Tie as tie
+
+abbrev Inv-loop : tie.InvT-loop
+Inv-loop file from end k i₀ at₀ i at = Cursor file end (placesIn (walkFrom file end 0 from)) i at × (i ≤ k)
+
+abbrev μ-loop : tie.MeasureT-loop
+μ-loop file from end k i₀ at₀ i at = end - at
+
+loop-holds : tie.Need-loop-holds Inv-loop μ-loop
+loop-holds c = (cursor-first (c .before .pre), omega arith)
+
+ahead : (c : tie.In-loop Inv-loop μ-loop) → Ahead (c .before .before .before .args .file .now) (c .before .before .before .args .end) (placesIn (walkFrom (c .before .before .before .args .file .now) (c .before .before .before .args .end) 0 (c .before .before .before .args .from))) (c .before .loop .i) (c .before .loop .at)
+ahead c = cursor-ahead (c .before .loop .inv .0) (omega arith)
+
+entry-at-requires : tie.Need-entry-at-requires Inv-loop μ-loop
+entry-at-requires c κs = let a = ahead (c .before) in record { size = a .size; inside = omega arith }
+
+returns : tie.Need-returns Inv-loop μ-loop
+unfolding entryOf
+returns c =
+    let a = ahead (c .before .before) in
+    let i = c .before .before .before in
+    let f = i .before .before .args .file .now in
+    let ps = placesIn (walkFrom f (i .before .before .args .end) 0 (i .before .before .args .from)) in
+    let e : getD ps (i .before .before .args .k) 0 ≡ i .loop .at = ap (λ (j : ℕ). getD ps j 0) (omega arith) ∙ a .place in
+    lt-yes _ _ _ (omega arith) (ap EntryAnswer.Entry (c .entry-at .ensures ∙ ap (entryAt f) (sym e)))
+
+size-at-requires : tie.Need-size-at-requires Inv-loop μ-loop
+size-at-requires c κs = omega arith
+
+add-at : tie.Need-add-at Inv-loop μ-loop
+add-at c = let a = ahead (c .before .before) in omega arith
+
+add-i : tie.Need-add-i Inv-loop μ-loop
+add-i c = omega arith
+
+loop-less : tie.Need-loop-less Inv-loop μ-loop
+loop-less c = let a = ahead (c .before .before) in omega arith
+
+loop-again : tie.Need-loop-again Inv-loop μ-loop
+loop-again c =
+    let a = ahead (c .before .before) in
+    (rw (add-one (c .before .before .before .loop .i), c .size-at .ensures .0) (a .next), omega arith)
+
+returns-2 : tie.Need-returns-2 Inv-loop μ-loop
+unfolding entryOf
+returns-2 c = lt-no _ _ _ (omega (arith, cursor-done (c .before .loop .inv .0) (omega arith))) refl
+
+pub entry-in-spec : {M : Type 1} → statement M
+entry-in-spec =
+    tie.close
+    (tie.spec
+    Inv-loop
+    μ-loop
+    loop-holds
+    entry-at-requires
+    returns
+    size-at-requires
+    add-at
+    add-i
+    loop-less
+    loop-again
+    returns-2)

@@ -1,0 +1,38 @@
+-- `judge_all` meets its contract: each arm is a clause of its definition.
+-- Assumes nothing.
+use mathlib.Core.Path.{sym, _∙_, ap}
+use Rattle.prelude.specs.declared.refusals.Verdict.{Verdict}
+use Rattle.calendar.specs.Reader.{daysFrom, andThen}
+use Rattle.calendar.specs.ReaderLaws.{then-fine, then-refused}
+use borrow.Author.Needs.{needs}
+use Rattle.calendar.proofs.reading.judge_all.Statement.{statement}
+use Rattle.calendar.proofs.reading.judge_all.Tie as tie
+
+judge-table-requires : tie.Need-judge-table-requires
+judge-table-requires c κs = search needs
+
+enum-told : tie.Need-enum-told
+enum-told c = search needs
+
+judge-days-requires : tie.Need-judge-days-requires
+judge-days-requires c κs = search needs
+
+enum-known-v : tie.Need-enum-known-v
+enum-known-v c = search needs
+
+returns : tie.Need-returns
+returns c =
+    let a = c .before .before .before .before .before .args in
+    let w = daysFrom (a .count) (a .file .now) 64 in
+    c .judge-days .ensures ∙ sym (ap (λ (v : Verdict). andThen v w) (sym (c .before .before .before .judge-table .ensures) ∙ c .before .enum-told .given .1) ∙ then-fine w)
+
+returns-2 : tie.Need-returns-2
+returns-2 c =
+    let a = c .before .before .before .before .before .args in
+    let w = daysFrom (a .count) (a .file .now) 64 in
+    sym (ap (λ (v : Verdict). andThen v w) (sym (c .before .before .before .judge-table .ensures) ∙ c .before .v .given .1) ∙ then-refused _ w)
+
+pub judge-all-spec : {M : Type 1} → statement M
+judge-all-spec =
+    tie.close
+    (tie.spec judge-table-requires enum-told judge-days-requires enum-known-v returns returns-2)

@@ -1,0 +1,70 @@
+-- A day's list of appointments as it is read, document 01 "The Calendar file": one after the other, up to the list's end.
+-- Assumes nothing.
+use Prim.Native.Nat.{ℕ, zero, suc, _+_, _-_}
+use mathlib.Core.Bool.{Bool, true, false}
+use mathlib.Core.List.{List, [], _∷_}
+use Rattle.prelude.specs.Choice.{ifLt, ifEq, ifB}
+use Rattle.prelude.specs.Bytes.{byte, word}
+use Rattle.prelude.specs.Refusals.{badAppointment, refusalAt}
+use Rattle.prelude.specs.declared.refusals.Verdict.{Verdict}
+
+-- "Appointment: size byte, flags (1 alarm, 2 special time), minute, text, zero byte."
+abbrev pub sizeAt : List ℕ → ℕ → ℕ
+sizeAt f at = byte f at
+
+abbrev pub flagsAt : List ℕ → ℕ → ℕ
+flagsAt f at = byte f (at + 1)
+
+abbrev pub minuteAt : List ℕ → ℕ → ℕ
+minuteAt f at = word f (at + 2)
+
+abbrev pub nextAt : List ℕ → ℕ → ℕ
+nextAt f at = at + sizeAt f at
+
+-- the place of the first zero among the n bytes from p, the place behind them where there is none
+unfoldable pub firstZero : ℕ → List ℕ → ℕ → ℕ
+firstZero zero f p = p
+firstZero (suc n) f p = ifEq (byte f p) 0 p (firstZero n f (p + 1))
+
+-- whether the text of an appointment of that size ends with it: "first zero after the minute missing or not its last byte"
+abbrev pub textEnds : List ℕ → ℕ → ℕ → Bool
+textEnds f at size = ifEq (firstZero (size - 4) f (at + 4) + 1) (at + size) true false
+
+-- whether an appointment stands at a place of a list that ends at e, where the one before began at minute low:
+-- "size below 5 or past the block's list; flags over 3; minute over 1,439 or below the one before; first zero after the minute missing or not its last byte"
+unfoldable pub appointmentOk : List ℕ → ℕ → ℕ → ℕ → Bool
+appointmentOk f e low at =
+    ifLt (sizeAt f at) 5 false
+    (ifLt e (nextAt f at) false
+    (ifLt 3 (flagsAt f at) false
+    (ifLt 1439 (minuteAt f at) false
+    (ifLt (minuteAt f at) low false
+    (textEnds f at (sizeAt f at))))))
+
+-- what is met from a place on: appointments, and then the list's end or a place where none stands
+pub data Walk : Type 0 where
+  more : ℕ → Walk → Walk
+  ended : Walk
+  stopped : ℕ → Walk
+
+-- at most so many appointments on; the walk below never runs out
+unfoldable pub walkF : ℕ → List ℕ → ℕ → ℕ → ℕ → Walk
+walkF zero f e low at = ended
+walkF (suc k) f e low at =
+    ifLt at e (ifB (appointmentOk f e low at) (more at (walkF k f e (minuteAt f at) (nextAt f at))) (stopped at)) ended
+
+-- the walk from a place to the list's end e, where no minute may be below low; a list holds no more appointments than bytes
+unfoldable pub walkFrom : List ℕ → ℕ → ℕ → ℕ → Walk
+walkFrom f e low at = walkF (e - at) f e low at
+
+-- the places of the appointments met
+unfoldable pub placesIn : Walk → List ℕ
+placesIn (more at w) = at ∷ placesIn w
+placesIn ended = []
+placesIn (stopped at) = []
+
+-- "24 .. appointment"
+unfoldable pub verdictIn : Walk → Verdict
+verdictIn (more at w) = verdictIn w
+verdictIn ended = Verdict.Fine
+verdictIn (stopped at) = Verdict.Refused (refusalAt badAppointment at)

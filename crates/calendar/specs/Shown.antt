@@ -1,0 +1,91 @@
+-- What an accepted Calendar file shows, document 01: "the number of days, the day and block offset (as stored) at a place, and a day's appointments (minute, flags, text)".
+-- Assumes nothing.
+use Prim.Native.Nat.{ℕ, zero, suc, _+_, _-_, _*_}
+use mathlib.Core.List.{List, [], map}
+use lib.ListN.{length, getD}
+use Rattle.prelude.specs.Choice.{ifLt, ifEq}
+use Rattle.prelude.specs.Bytes.{part}
+use Rattle.prelude.specs.Refusals.{noSuchNumber, outOfRange, refusal}
+use Rattle.days.specs.Days.{lastDay}
+use Rattle.calendar.specs.File.{Appointment}
+use Rattle.calendar.specs.Lists.{sizeAt, flagsAt, minuteAt, placesIn}
+use Rattle.calendar.specs.Reader.{countOf, dayAt, offsetAt, listOf, calendarOf}
+use Rattle.calendar.specs.declared.types.CalendarAnswer.{CalendarAnswer}
+use Rattle.calendar.specs.declared.types.Descriptor.{Descriptor}
+use Rattle.calendar.specs.declared.types.DescriptorAnswer.{DescriptorAnswer}
+use Rattle.calendar.specs.declared.types.CountAnswer.{CountAnswer}
+use Rattle.calendar.specs.declared.types.Entry.{Entry}
+use Rattle.calendar.specs.declared.types.EntryAnswer.{EntryAnswer}
+
+-- the places of a day's appointments, among k descriptors from place p on: "a day with no descriptor shows nothing"
+unfoldable pub placesFrom : ℕ → List ℕ → ℕ → ℕ → List ℕ
+placesFrom zero f p d = []
+placesFrom (suc k) f p d = ifEq (dayAt f p) d (placesIn (listOf f p)) (placesFrom k f (p + 12) d)
+
+unfoldable pub placesOn : List ℕ → ℕ → List ℕ
+placesOn f d = placesFrom (countOf f) f 64 d
+
+-- the appointment at a place: "minute, flags, text", where the text stands before the zero that ends it
+abbrev pub textPlace : ℕ → ℕ
+textPlace at = at + 4
+
+abbrev pub textLength : List ℕ → ℕ → ℕ
+textLength f at = sizeAt f at - 5
+
+unfoldable pub appointmentAt : List ℕ → ℕ → Appointment
+appointmentAt f at =
+    record { minute = minuteAt f at; flags = flagsAt f at; text = part f (textPlace at) (textLength f at) }
+
+-- "a day's appointments (minute, flags, text)"
+unfoldable pub appointmentsOn : List ℕ → ℕ → List Appointment
+appointmentsOn f d = map (appointmentAt f) (placesOn f d)
+
+-- the same appointment with the stretch of its text
+unfoldable pub entryAt : List ℕ → ℕ → Entry
+entryAt f at =
+    record {
+      minute = record { 0 = minuteAt f at };
+      flags = flagsAt f at;
+      «text_place» = textPlace at;
+      «text_length» = textLength f at;
+    }
+
+-- the descriptor at a place: "day and block offset (as stored)"
+unfoldable pub descriptorAt : List ℕ → ℕ → Descriptor
+descriptorAt f p = record { day = record { 0 = dayAt f p }; offset = offsetAt f p }
+
+-- the k-th descriptor: the file's own refusal, then 10
+unfoldable pub descriptorFrom : List ℕ → ℕ → CalendarAnswer → DescriptorAnswer
+descriptorFrom f k (CalendarAnswer.Accepted n) =
+    ifLt k n (DescriptorAnswer.Descriptor (descriptorAt f (64 + 12 * k))) (DescriptorAnswer.Refused (refusal noSuchNumber))
+descriptorFrom f k (CalendarAnswer.Refused e) = DescriptorAnswer.Refused e
+
+unfoldable pub descriptorAnswer : List ℕ → ℕ → DescriptorAnswer
+descriptorAnswer f k = descriptorFrom f k (calendarOf f)
+
+-- how many appointments a day has: the file's own refusal, then 11
+unfoldable pub countFrom : List ℕ → ℕ → CalendarAnswer → CountAnswer
+countFrom f d (CalendarAnswer.Accepted n) =
+    ifLt lastDay d (CountAnswer.Refused (refusal outOfRange)) (CountAnswer.Count (length (placesOn f d)))
+countFrom f d (CalendarAnswer.Refused e) = CountAnswer.Refused e
+
+unfoldable pub countAnswer : List ℕ → ℕ → CountAnswer
+countAnswer f d = countFrom f d (calendarOf f)
+
+-- the k-th appointment of a day: the file's own refusal, then 11, then 10
+unfoldable pub entryOf : List ℕ → ℕ → List ℕ → EntryAnswer
+entryOf f k places =
+    ifLt k (length places) (EntryAnswer.Entry (entryAt f (getD places k 0))) (EntryAnswer.Refused (refusal noSuchNumber))
+
+unfoldable pub entryFrom : List ℕ → ℕ → ℕ → CalendarAnswer → EntryAnswer
+entryFrom f d k (CalendarAnswer.Accepted n) =
+    ifLt lastDay d (EntryAnswer.Refused (refusal outOfRange)) (entryOf f k (placesOn f d))
+entryFrom f d k (CalendarAnswer.Refused e) = EntryAnswer.Refused e
+
+unfoldable pub entryAnswer : List ℕ → ℕ → ℕ → EntryAnswer
+entryAnswer f d k = entryFrom f d k (calendarOf f)
+
+-- its text as a stretch of the file; nothing where there is no such appointment
+unfoldable pub textIn : List ℕ → EntryAnswer → List ℕ
+textIn f (EntryAnswer.Entry e) = part f (e .«text_place») (e .«text_length»)
+textIn f (EntryAnswer.Refused r) = []

@@ -1,0 +1,69 @@
+// The appointments of a list that was judged: how many, and each by its number.
+ghost use mathlib.Core.Path.{_≡_};
+ghost use lib.ListN.{length};
+ghost use Rattle.calendar.specs.Lists.{walkFrom, placesIn};
+ghost use Rattle.calendar.specs.Shown.{entryAt, entryOf};
+ghost use Rattle.calendar.specs.EntryLaws.{EntryIn, FineList};
+use crate::lists::size_at;
+use crate::types::Entry;
+use crate::types::EntryAnswer;
+use days::types::Minute;
+use prelude::refusals::NO_SUCH_NUMBER;
+use prelude::refusals::Refusal;
+use prelude::slices::word_in;
+
+fn wide(b: u8) -> u16
+    ensures { λ r. ⌜ r ≡ b ⌝ }
+{
+    b as u16
+}
+
+// The appointment at a place.
+fn entry_at(file: &[u8], at: usize) -> Entry
+    requires { ⌜ EntryIn (now file) at ⌝ }
+    ensures { λ r. ⌜ r ≡ entryAt (now (file .entry)) at ⌝ }
+{
+    let minute = word_in(file, at + 2);
+    let flags = wide(file[at + 1]);
+    let size = size_at(file, at);
+    Entry {
+        minute: Minute(minute),
+        flags,
+        text_place: at + 4,
+        text_length: size - 5,
+    }
+}
+
+// How many appointments a list has.
+pub fn count_list(file: &[u8], from: usize, end: usize) -> usize
+    requires { ⌜ FineList (now file) end from ⌝ }
+    ensures { λ r. ⌜ r ≡ length (placesIn (walkFrom (now (file .entry)) end 0 from)) ⌝ }
+{
+    let mut n: usize = 0;
+    let mut at = from;
+    while at < end {
+        at += size_at(file, at);
+        n += 1;
+    }
+    n
+}
+
+// The k-th appointment of a list, or 10.
+pub fn entry_in(file: &[u8], from: usize, end: usize, k: usize) -> EntryAnswer
+    requires { ⌜ FineList (now file) end from ⌝ }
+    ensures { λ r. ⌜ r ≡ entryOf (now (file .entry)) k (placesIn (walkFrom (now (file .entry)) end 0 from)) ⌝ }
+{
+    let mut i: usize = 0;
+    let mut at = from;
+    while at < end {
+        if i == k {
+            return EntryAnswer::Entry(entry_at(file, at));
+        }
+        at += size_at(file, at);
+        i += 1;
+    }
+    EntryAnswer::Refused(Refusal {
+        number: NO_SUCH_NUMBER,
+        place: 0,
+    })
+}

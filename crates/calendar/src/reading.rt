@@ -1,0 +1,148 @@
+// Reading a Calendar file: head, table, then each day's block and list. One pass, linear in what they hold.
+ghost use mathlib.Core.Path.{_≡_};
+ghost use Prim.Native.Nat.{_+_, _≤_};
+ghost use lib.ListN.{length};
+ghost use Rattle.calendar.specs.Reader.{tableFrom, blockAt, listPlace, listEnd, blockOk, dayVerdict, daysFrom, andThen, answered, calendarOf};
+ghost use Rattle.calendar.specs.ReaderLaws.{WholeTable, InTable, BlockAt};
+use crate::head::count_of;
+use crate::head::is_calendar;
+use crate::head::judge_table;
+use crate::lists::judge_list;
+use crate::types::CalendarAnswer;
+use crate::types::Span;
+use prelude::refusals::BAD_BLOCK;
+use prelude::refusals::BAD_TABLE;
+use prelude::refusals::CALENDAR_TOO_LONG;
+use prelude::refusals::NOT_A_CALENDAR;
+use prelude::refusals::Refusal;
+use prelude::refusals::Verdict;
+use prelude::slices::word_in;
+
+// Whether the block of the descriptor at p lies behind the table and in the file, and is that day's.
+fn block_ok(file: &[u8], p: usize, table_end: usize) -> bool
+    requires { ⌜ InTable (now file) «table_end» p ⌝ }
+    ensures { λ r. ⌜ r ≡ blockOk (now (file .entry)) p ⌝ }
+{
+    let offset = word_in(file, p + 6) as usize;
+    if 32767 < offset {
+        return false;
+    }
+    let block = 64 * offset;
+    if block < table_end {
+        return false;
+    }
+    if file.len() < block + 10 {
+        return false;
+    }
+    if word_in(file, block) != 0 {
+        return false;
+    }
+    if word_in(file, block + 2) != word_in(file, p) {
+        return false;
+    }
+    if word_in(file, block + 4) != 1 {
+        return false;
+    }
+    let notes = word_in(file, block + 6) as usize;
+    let appointments = word_in(file, block + 8) as usize;
+    if file.len() < block + 10 + notes + appointments {
+        return false;
+    }
+    true
+}
+
+// Where the list of the day lies whose descriptor stands at p.
+pub fn span_of(file: &[u8], p: usize) -> Span
+    requires { ⌜ p + 12 ≤ length (now file) ⌝ }
+    requires { ⌜ BlockAt (now file) p ⌝ }
+    ensures { λ r. ⌜ (r .from ≡ listPlace (now (file .entry)) (blockAt (now (file .entry)) p)) × (r .end ≡ listEnd (now (file .entry)) (blockAt (now (file .entry)) p)) ⌝ }
+{
+    let block = 64 * (word_in(file, p + 6) as usize);
+    let from = block + 10 + word_in(file, block + 6) as usize;
+    let end = from + word_in(file, block + 8) as usize;
+    Span { from, end }
+}
+
+// The day whose descriptor stands at p: 23, then 24.
+fn judge_day(file: &[u8], p: usize, table_end: usize) -> Verdict
+    requires { ⌜ InTable (now file) «table_end» p ⌝ }
+    ensures { λ r. ⌜ r ≡ dayVerdict (now (file .entry)) p ⌝ }
+{
+    if block_ok(file, p, table_end) {
+        let span = span_of(file, p);
+        return judge_list(file, span.from, span.end);
+    }
+    Verdict::Refused(Refusal {
+        number: BAD_BLOCK,
+        place: p,
+    })
+}
+
+// Each day in turn.
+fn judge_days(file: &[u8], count: usize) -> Verdict
+    requires { ⌜ WholeTable (now file) count ⌝ }
+    ensures { λ r. ⌜ r ≡ daysFrom count (now (file .entry)) 64 ⌝ }
+{
+    let table_end = 64 + 12 * count;
+    let mut p: usize = 64;
+    let mut left = count;
+    while 0 < left {
+        match judge_day(file, p, table_end) {
+            Verdict::Fine => {
+                p += 12;
+                left -= 1;
+            }
+            Verdict::Refused(e) => {
+                return Verdict::Refused(e);
+            }
+        }
+    }
+    Verdict::Fine
+}
+
+// The descriptors, then the days.
+fn judge_all(file: &[u8], count: usize) -> Verdict
+    requires { ⌜ WholeTable (now file) count ⌝ }
+    ensures { λ r. ⌜ r ≡ andThen (tableFrom count (now (file .entry)) 64 0) (daysFrom count (now (file .entry)) 64) ⌝ }
+{
+    let v = judge_table(file, count);
+    match v {
+        Verdict::Fine => judge_days(file, count),
+        Verdict::Refused(e) => Verdict::Refused(e),
+    }
+}
+
+fn answered_with(count: usize, v: Verdict) -> CalendarAnswer
+    ensures { λ r. ⌜ r ≡ answered count v ⌝ }
+{
+    match v {
+        Verdict::Fine => CalendarAnswer::Accepted(count),
+        Verdict::Refused(e) => CalendarAnswer::Refused(e),
+    }
+}
+
+// The number of days of a Calendar file, or its refusal.
+pub fn read_calendar(file: &[u8]) -> CalendarAnswer
+    ensures { λ r. ⌜ r ≡ calendarOf (now (file .entry)) ⌝ }
+{
+    if 2228224 < file.len() {
+        return CalendarAnswer::Refused(Refusal {
+            number: CALENDAR_TOO_LONG,
+            place: 0,
+        });
+    }
+    if is_calendar(file) {
+        let count = count_of(file);
+        if file.len() < 64 + 12 * count {
+            return CalendarAnswer::Refused(Refusal {
+                number: BAD_TABLE,
+                place: 64,
+            });
+        }
+        return answered_with(count, judge_all(file, count));
+    }
+    CalendarAnswer::Refused(Refusal {
+        number: NOT_A_CALENDAR,
+        place: 0,
+    })
+}

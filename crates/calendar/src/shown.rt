@@ -1,0 +1,129 @@
+// What an accepted Calendar file shows: the descriptors by number, and the appointments of a day. Each call gives the file's own refusal first.
+ghost use mathlib.Core.Path.{_≡_};
+ghost use Rattle.calendar.specs.Shown.{descriptorFrom, descriptorAnswer, countFrom, countAnswer, entryFrom, entryAnswer, textIn};
+ghost use Rattle.calendar.specs.ReaderLaws.{AcceptedFile};
+ghost use Rattle.calendar.specs.EntryLaws.{ListOn};
+use crate::entries::count_list;
+use crate::entries::entry_in;
+use crate::reading::read_calendar;
+use crate::reading::span_of;
+use crate::types::CalendarAnswer;
+use crate::types::CountAnswer;
+use crate::types::Descriptor;
+use crate::types::DescriptorAnswer;
+use crate::types::EntryAnswer;
+use crate::types::Span;
+use days::types::CalendarDay;
+use prelude::refusals::NO_SUCH_NUMBER;
+use prelude::refusals::OUT_OF_RANGE;
+use prelude::refusals::Refusal;
+use prelude::slices::part;
+use prelude::slices::word_in;
+
+fn descriptor_in(file: &[u8], k: usize, n: usize) -> DescriptorAnswer
+    requires { ⌜ AcceptedFile (now file) n ⌝ }
+    ensures { λ r. ⌜ r ≡ descriptorFrom (now (file .entry)) k (CalendarAnswer.Accepted n) ⌝ }
+{
+    if k < n {
+        let p = 64 + 12 * k;
+        let day = word_in(file, p);
+        let offset = word_in(file, p + 6);
+        return DescriptorAnswer::Descriptor(Descriptor {
+            day: CalendarDay(day),
+            offset,
+        });
+    }
+    DescriptorAnswer::Refused(Refusal {
+        number: NO_SUCH_NUMBER,
+        place: 0,
+    })
+}
+
+// The day and the block offset at a place of the table, as stored.
+pub fn descriptor_at(file: &[u8], k: usize) -> DescriptorAnswer
+    ensures { λ r. ⌜ r ≡ descriptorAnswer (now (file .entry)) k ⌝ }
+{
+    let a = read_calendar(file);
+    match a {
+        CalendarAnswer::Accepted(n) => descriptor_in(file, k, n),
+        CalendarAnswer::Refused(e) => DescriptorAnswer::Refused(e),
+    }
+}
+
+// Where the list of a day lies; an empty one where it has no descriptor.
+fn span_on(file: &[u8], day: u16, n: usize) -> Span
+    requires { ⌜ AcceptedFile (now file) n ⌝ }
+    ensures { λ r. ⌜ ListOn (now (file .entry)) day (r .from) (r .end) ⌝ }
+{
+    let mut p: usize = 64;
+    let mut left = n;
+    while 0 < left {
+        if word_in(file, p) == day {
+            return span_of(file, p);
+        }
+        p += 12;
+        left -= 1;
+    }
+    Span { from: 0, end: 0 }
+}
+
+fn count_on(file: &[u8], day: CalendarDay, n: usize) -> CountAnswer
+    requires { ⌜ AcceptedFile (now file) n ⌝ }
+    ensures { λ r. ⌜ r ≡ countFrom (now (file .entry)) (day .0) (CalendarAnswer.Accepted n) ⌝ }
+{
+    if 43829 < day.0 {
+        return CountAnswer::Refused(Refusal {
+            number: OUT_OF_RANGE,
+            place: 0,
+        });
+    }
+    let span = span_on(file, day.0, n);
+    CountAnswer::Count(count_list(file, span.from, span.end))
+}
+
+// How many appointments a day has.
+pub fn appointment_count(file: &[u8], day: CalendarDay) -> CountAnswer
+    ensures { λ r. ⌜ r ≡ countAnswer (now (file .entry)) (day .0) ⌝ }
+{
+    let a = read_calendar(file);
+    match a {
+        CalendarAnswer::Accepted(n) => count_on(file, day, n),
+        CalendarAnswer::Refused(e) => CountAnswer::Refused(e),
+    }
+}
+
+fn entry_on(file: &[u8], day: CalendarDay, k: usize, n: usize) -> EntryAnswer
+    requires { ⌜ AcceptedFile (now file) n ⌝ }
+    ensures { λ r. ⌜ r ≡ entryFrom (now (file .entry)) (day .0) k (CalendarAnswer.Accepted n) ⌝ }
+{
+    if 43829 < day.0 {
+        return EntryAnswer::Refused(Refusal {
+            number: OUT_OF_RANGE,
+            place: 0,
+        });
+    }
+    let span = span_on(file, day.0, n);
+    entry_in(file, span.from, span.end, k)
+}
+
+// The k-th appointment of a day.
+pub fn appointment_at(file: &[u8], day: CalendarDay, k: usize) -> EntryAnswer
+    ensures { λ r. ⌜ r ≡ entryAnswer (now (file .entry)) (day .0) k ⌝ }
+{
+    let a = read_calendar(file);
+    match a {
+        CalendarAnswer::Accepted(n) => entry_on(file, day, k, n),
+        CalendarAnswer::Refused(e) => EntryAnswer::Refused(e),
+    }
+}
+
+// Its text, as that stretch of the caller's file; nothing where there is no such appointment.
+pub fn text_at(file: &[u8], day: CalendarDay, k: usize) -> &[u8]
+    ensures { λ r. ⌜ now r ≡ textIn (now (file .entry)) (entryAnswer (now (file .entry)) (day .0) k) ⌝ }
+{
+    let a = appointment_at(file, day, k);
+    match a {
+        EntryAnswer::Entry(e) => part(file, e.text_place, e.text_length),
+        EntryAnswer::Refused(_) => &file[..0],
+    }
+}

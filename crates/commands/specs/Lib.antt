@@ -1,0 +1,7 @@
+-- The command line and the answers of the program: definitions and laws.
+pub mod Words
+pub mod Commands
+pub mod Responses
+pub mod WordLaws
+pub mod ResponseLaws
+pub mod Examples

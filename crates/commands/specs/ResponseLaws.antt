@@ -1,0 +1,103 @@
+-- Laws of the answers: the book's refusals come first, and with the program's room a page is never refused with 12.
+-- Assumes nothing.
+use Prim.Native.Nat.{ℕ, _^_, _<_, _≤_}
+use mathlib.Core.Path.{_≡_, refl, sym, _∙_, ap}
+use mathlib.Core.List.{List}
+use native.Mathlib.Omega.{arith}
+use lib.ListN.{length, length-append}
+use Rattle.prelude.specs.Choice.{is-lt, is-ge, lt-skip, lt-take}
+use Rattle.prelude.specs.Splice.{splice}
+use Rattle.prelude.specs.declared.refusals.Refusal.{Refusal}
+use Rattle.days.specs.Days.{lastDay}
+use Rattle.book.specs.Books.{bookOf}
+use Rattle.book.specs.declared.types.BookAnswer.{BookAnswer}
+use Rattle.falls.specs.declared.types.ShortMonth.{ShortMonth}
+use Rattle.digits.specs.DecimalLaws.{length-below, length-word}
+use Rattle.pages.specs.Answers.{askedOf, asked}
+use Rattle.pages.specs.PageLaws.{asked-ready}
+use Rattle.pages.specs.declared.types.Ready.{Ready}
+use Rattle.pages.specs.declared.types.Asked.{Asked}
+use Rattle.pages.specs.declared.types.CountAnswer.{CountAnswer}
+use Rattle.printing.specs.Printed.{pageText}
+use Rattle.printing.specs.Answers.{printIn, printLeaves}
+use Rattle.printing.specs.SizeLaws.{page-most}
+use Rattle.commands.specs.Responses.{refusalText, pageResponse, otherResponse, response}
+use Rattle.commands.specs.declared.types.Command.{Command}
+
+-- the room that any refusal of the machine's numbers needs
+pub length-refusal : (e : Refusal) → e .number < 2 ^ 32 → e .place < 2 ^ 64 → length (refusalText e) ≤ 32
+unfolding refusalText
+length-refusal e h k =
+    let a = length-below 9 (e .number) (omega arith) in
+    let b = length-word k in
+    simp length-append (omega arith)
+
+-- "the book's own refusals" come first, whatever is asked
+refused-of : (n : ℕ) {b : BookAnswer} {e : Refusal} → b ≡ BookAnswer.Refused e → askedOf (record { 0 = n }) b ≡ Asked.Refused e
+unfolding askedOf
+refused-of n q = rw q
+
+pub book-first : (f : List ℕ) (command : Command) (room : ℕ) {e : Refusal} → bookOf f ≡ BookAnswer.Refused e → response f command room ≡ refusalText e
+unfolding response pageResponse otherResponse asked
+book-first f (Command.Page d c) room q = rw (refused-of d q)
+book-first f (Command.Export d n c) room q = rw q
+book-first f Command.Unknown room q = rw q
+
+-- a number past the last day
+beyond-of : (f : List ℕ) (c : ShortMonth) (room d : ℕ) (b : BookAnswer) → lastDay < d → pageResponse f c room (askedOf (record { 0 = d }) b) ≡ otherResponse b
+unfolding askedOf pageResponse otherResponse
+beyond-of f c room d (BookAnswer.Accepted b) h = ap (pageResponse f c room) (is-lt h _ _)
+beyond-of f c room d (BookAnswer.Refused e) h = refl
+
+pub page-beyond : (f : List ℕ) (c : ShortMonth) (room d : ℕ) → lastDay < d → pageResponse f c room (asked f (record { 0 = d })) ≡ otherResponse (bookOf f)
+unfolding asked
+page-beyond f c room d h = beyond-of f c room d (bookOf f) h
+
+-- 12 never happens with 65,535 bytes of room
+pub page-whole : (f : List ℕ) (d : ℕ) (c : ShortMonth) (room : ℕ) {a : Ready} → asked f (record { 0 = d }) ≡ Asked.Ready a → 65535 ≤ room → response f (Command.Page d c) room ≡ pageText f c (a .facts)
+unfolding response pageResponse
+page-whole f d c room {a} q h =
+    let m = page-most f c a (asked-ready f (record { 0 = d }) q) in
+    ap (pageResponse f c room) q ∙ is-ge (omega arith) _ _
+
+-- what a printed page's answer says of the bytes that the program writes
+pub record Counted (f : List ℕ) (c : ShortMonth) (out : List ℕ) (q : Asked) (n : ℕ) : Type 0 where
+  pub next : n ≡ length (pageResponse f c (length out) q)
+  pub put : printLeaves f c out q ≡ splice out 0 (pageResponse f c (length out) q)
+  pub within : n ≤ length out
+
+pub record Refused (f : List ℕ) (c : ShortMonth) (out : List ℕ) (q : Asked) (e : Refusal) : Type 0 where
+  pub text : pageResponse f c (length out) q ≡ refusalText e
+  pub left : printLeaves f c out q ≡ out
+
+count-not : {n : ℕ} {e : Refusal} → CountAnswer.Refused e ≡ CountAnswer.Count n → ⊥
+count-not c = let z : _≡_ {A = ℕ} 0 1 = cc in omega arith
+
+refused-not : {n : ℕ} {e : Refusal} → CountAnswer.Count n ≡ CountAnswer.Refused e → ⊥
+refused-not c = let z : _≡_ {A = ℕ} 0 1 = cc in omega arith
+
+count-inj : {n m : ℕ} → CountAnswer.Count n ≡ CountAnswer.Count m → n ≡ m
+count-inj e = cc
+
+refused-inj : {a b : Refusal} → CountAnswer.Refused a ≡ CountAnswer.Refused b → a ≡ b
+refused-inj e = cc
+
+pub print-count : (f : List ℕ) (c : ShortMonth) (out : List ℕ) (q : Asked) {n : ℕ} → printIn f c (length out) q ≡ CountAnswer.Count n → Counted f c out q n
+unfolding printIn printLeaves pageResponse
+print-count f c out (Asked.Ready a) e =
+    let p = lt-skip (length out) (length (pageText f c (a .facts))) _ _ count-not e in
+    let l : length (pageText f c (a .facts)) ≤ length out = p .0 in
+    let n = count-inj (p .1) in
+    record {
+      next = sym n ∙ ap length (sym (is-ge l _ _));
+      put = is-ge l _ _ ∙ ap (splice out 0) (sym (is-ge l _ _));
+      within = omega arith;
+    }
+print-count f c out (Asked.Refused r) e = absurd (count-not e)
+
+pub print-refused : (f : List ℕ) (c : ShortMonth) (out : List ℕ) (q : Asked) {e : Refusal} → printIn f c (length out) q ≡ CountAnswer.Refused e → Refused f c out q e
+unfolding printIn printLeaves pageResponse
+print-refused f c out (Asked.Ready a) e =
+    let p = lt-take (length out) (length (pageText f c (a .facts))) _ _ refused-not e in
+    record { text = is-lt (p .0) _ _ ∙ ap refusalText (refused-inj (p .1)); left = is-lt (p .0) _ _ }
+print-refused f c out (Asked.Refused r) e = record { text = ap refusalText (refused-inj e); left = refl }

@@ -1,0 +1,37 @@
+-- What the program writes, document 01 "What we read, write and show": a day page, or a refusal.
+-- Assumes nothing.
+use Prim.Native.Nat.{ℕ}
+use mathlib.Core.List.{List, [], _∷_, _++_}
+use lib.ListN.{length}
+use Rattle.prelude.specs.Choice.{ifLt}
+use Rattle.prelude.specs.Refusals.{outOfRange, noRoom, refusal}
+use Rattle.prelude.specs.declared.refusals.Refusal.{Refusal}
+use Rattle.book.specs.Books.{bookOf}
+use Rattle.book.specs.declared.types.BookAnswer.{BookAnswer}
+use Rattle.falls.specs.declared.types.ShortMonth.{ShortMonth}
+use Rattle.digits.specs.Digits.{decimal}
+use Rattle.pages.specs.Answers.{asked}
+use Rattle.pages.specs.declared.types.Asked.{Asked}
+use Rattle.printing.specs.Printed.{newline, space, pageText}
+use Rattle.commands.specs.declared.types.Command.{Command}
+
+-- "A refusal is printed as number, space, place, 0Ah."
+unfoldable pub refusalText : Refusal → List ℕ
+refusalText e = decimal (e .number) ++ (space ∷ (decimal (e .place) ++ (newline ∷ [])))
+
+-- a day page, in so many bytes of room
+unfoldable pub pageResponse : List ℕ → ShortMonth → ℕ → Asked → List ℕ
+pageResponse f c room (Asked.Ready a) =
+    ifLt room (length (pageText f c (a .facts))) (refusalText (refusal noRoom)) (pageText f c (a .facts))
+pageResponse f c room (Asked.Refused e) = refusalText e
+
+-- "anything else is 11, after the book's own refusals"
+unfoldable pub otherResponse : BookAnswer → List ℕ
+otherResponse (BookAnswer.Accepted b) = refusalText (refusal outOfRange)
+otherResponse (BookAnswer.Refused e) = refusalText e
+
+unfoldable pub response : List ℕ → Command → ℕ → List ℕ
+response f (Command.Page d c) room = pageResponse f c room (asked f (record { 0 = d }))
+-- until the export lands
+response f (Command.Export d n c) room = otherResponse (bookOf f)
+response f Command.Unknown room = otherResponse (bookOf f)

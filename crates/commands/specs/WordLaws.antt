@@ -1,0 +1,48 @@
+-- Laws of words: what is spelled, and that a day is compared as it is, however long its number.
+-- Assumes nothing.
+use Prim.Native.Nat.{ℕ}
+use mathlib.Core.Path.{_≡_, refl, sym, _∙_}
+use mathlib.Core.Bool.{true, false≢true}
+use mathlib.Core.List.{List, [], _∷_}
+use native.Mathlib.Omega.{arith}
+use lib.ListN.{length}
+use Rattle.prelude.specs.Choice.{is-lt, lt-elim, eq-take}
+use Rattle.prelude.specs.Bytes.{byte}
+use Rattle.digits.specs.Digits.{capped}
+use Rattle.digits.specs.NumberLaws.{capped-below, capped-above}
+use Rattle.book.specs.Books.{bookOf}
+use Rattle.book.specs.declared.types.BookAnswer.{BookAnswer}
+use Rattle.pages.specs.Answers.{askedOf, asked}
+use Rattle.commands.specs.Words.{spelled}
+
+-- four bytes are those at places 0 to 3
+four-bytes : (w : List ℕ) → length w ≡ 4 → w ≡ byte w 0 ∷ byte w 1 ∷ byte w 2 ∷ byte w 3 ∷ []
+four-bytes [] h = absurd (omega arith)
+four-bytes (a ∷ []) h = absurd (omega arith)
+four-bytes (a ∷ b ∷ []) h = absurd (omega arith)
+four-bytes (a ∷ b ∷ c ∷ []) h = absurd (omega arith)
+four-bytes (a ∷ b ∷ c ∷ d ∷ []) h = refl
+four-bytes (a ∷ b ∷ c ∷ d ∷ e ∷ w) h = absurd (omega arith)
+
+pub spelled-is : (w : List ℕ) (a b c d : ℕ) → spelled w a b c d ≡ true → w ≡ a ∷ b ∷ c ∷ d ∷ []
+unfolding spelled
+spelled-is w a b c d e =
+    let l = eq-take (length w) 4 _ _ false≢true e in
+    let e0 = eq-take (byte w 0) a _ _ false≢true (l .1) in
+    let e1 = eq-take (byte w 1) b _ _ false≢true (e0 .1) in
+    let e2 = eq-take (byte w 2) c _ _ false≢true (e1 .1) in
+    let e3 = eq-take (byte w 3) d _ _ false≢true (e2 .1) in
+    four-bytes w (l .0) ∙ rw (e0 .0, e1 .0, e2 .0, e3 .0)
+
+-- "2^32 + 4,822 is 11, not day 4,822": a page is asked for by the number itself
+asked-capped-of : (b : BookAnswer) (v : ℕ) → askedOf (record { 0 = capped v }) b ≡ askedOf (record { 0 = v }) b
+unfolding askedOf
+asked-capped-of (BookAnswer.Accepted b) v =
+    lt-elim {X = Unit {0}} (λ _. askedOf (record { 0 = capped v }) (BookAnswer.Accepted b) ≡ askedOf (record { 0 = v }) (BookAnswer.Accepted b)) v 65536 tt tt
+    (λ h. rw (capped-below h))
+    (λ h. rw (capped-above h) (is-lt (omega arith) _ _ ∙ sym (is-lt (omega arith) _ _)))
+asked-capped-of (BookAnswer.Refused e) v = refl
+
+pub asked-capped : (f : List ℕ) (v : ℕ) → asked f (record { 0 = capped v }) ≡ asked f (record { 0 = v })
+unfolding asked
+asked-capped f v = asked-capped-of (bookOf f) v

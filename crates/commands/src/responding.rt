@@ -1,0 +1,84 @@
+// What the program writes, put at the start of a lent buffer.
+ghost use mathlib.Core.Path.{_≡_};
+ghost use Prim.Native.Nat.{_≤_};
+ghost use lib.ListN.{length};
+ghost use Rattle.prelude.specs.Splice.{splice};
+ghost use Rattle.book.specs.Books.{bookOf};
+ghost use Rattle.pages.specs.Answers.{asked};
+ghost use Rattle.commands.specs.Responses.{refusalText, pageResponse, otherResponse, response};
+use crate::types::Command;
+use book::reading::read_book;
+use book::types::BookAnswer;
+use days::types::CalendarDay;
+use digits::puts::put_byte;
+use digits::puts::put_decimal;
+use falls::types::ShortMonth;
+use pages::types::CountAnswer;
+use prelude::refusals::OUT_OF_RANGE;
+use prelude::refusals::Refusal;
+use printing::calls::print_page;
+
+// A refusal's text: ten digits, a space, twenty digits and 0Ah at most.
+fn put_refusal(out: &mut [u8], e: Refusal) -> usize
+    requires { ⌜ 32 ≤ length (now out) ⌝ }
+    ensures next { λ r. ⌜ r ≡ length (refusalText e) ⌝ }
+    ensures put { λ _. ⌜ now (out .exit) ≡ splice (now (out .entry)) 0 (refusalText e) ⌝ }
+    ensures within { λ r. ⌜ r ≤ length (now (out .entry)) ⌝ }
+{
+    let a = put_decimal(out, 0, e.number as usize);
+    let b = put_byte(out, a, b' ');
+    let c = put_decimal(out, b, e.place);
+    put_byte(out, c, b'\n')
+}
+
+fn other_response(file: &[u8], out: &mut [u8]) -> usize
+    requires { ⌜ 32 ≤ length (now out) ⌝ }
+    ensures next { λ r. ⌜ r ≡ length (otherResponse (bookOf (now (file .entry)))) ⌝ }
+    ensures put { λ _. ⌜ now (out .exit) ≡ splice (now (out .entry)) 0 (otherResponse (bookOf (now (file .entry)))) ⌝ }
+    ensures within { λ r. ⌜ r ≤ length (now (out .entry)) ⌝ }
+{
+    let a = read_book(file);
+    match a {
+        BookAnswer::Accepted(_) => put_refusal(
+            out,
+            Refusal {
+                number: OUT_OF_RANGE,
+                place: 0,
+            },
+        ),
+        BookAnswer::Refused(e) => put_refusal(out, e),
+    }
+}
+
+fn page_response(file: &[u8], d: u32, c: ShortMonth, out: &mut [u8]) -> usize
+    requires { ⌜ 32 ≤ length (now out) ⌝ }
+    ensures next { λ r.
+        ⌜ r ≡ length (pageResponse (now (file .entry)) c (length (now (out .entry))) (asked (now (file .entry)) (record { 0 = d }))) ⌝ }
+    ensures put { λ _.
+        ⌜ now (out .exit) ≡ splice (now (out .entry)) 0 (pageResponse (now (file .entry)) c (length (now (out .entry))) (asked (now (file .entry)) (record { 0 = d }))) ⌝ }
+    ensures within { λ r. ⌜ r ≤ length (now (out .entry)) ⌝ }
+{
+    if 65535 < d {
+        return other_response(file, out);
+    }
+    let a = print_page(file, CalendarDay(d as u16), c, out);
+    match a {
+        CountAnswer::Count(n) => n,
+        CountAnswer::Refused(e) => put_refusal(out, e),
+    }
+}
+
+// The bytes that the program writes for a command on a book, and how many they are.
+pub fn respond(file: &[u8], command: Command, out: &mut [u8]) -> usize
+    requires { ⌜ 32 ≤ length (now out) ⌝ }
+    ensures next { λ r. ⌜ r ≡ length (response (now (file .entry)) command (length (now (out .entry)))) ⌝ }
+    ensures put { λ _.
+        ⌜ now (out .exit) ≡ splice (now (out .entry)) 0 (response (now (file .entry)) command (length (now (out .entry)))) ⌝ }
+    ensures within { λ r. ⌜ r ≤ length (now (out .entry)) ⌝ }
+{
+    match command {
+        Command::Page(d, c) => page_response(file, d, c, out),
+        Command::Export(_, _, _) => other_response(file, out),
+        Command::Unknown => other_response(file, out),
+    }
+}

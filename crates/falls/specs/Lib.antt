@@ -1,0 +1,5 @@
+-- When a record falls on a day: the rules, the hours, and their laws.
+pub mod Falls
+pub mod Times
+pub mod FallsLaws
+pub mod Examples

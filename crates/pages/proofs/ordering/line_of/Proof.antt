@@ -1,0 +1,20 @@
+-- `line_of` meets its contract: number and place are taken out of the code.
+-- Assumes nothing.
+use Rattle.pages.specs.Pages.{lineOf}
+use Rattle.pages.specs.Codes.{decode}
+use borrow.Author.Needs.{needs}
+use Rattle.pages.proofs.ordering.line_of.Statement.{statement}
+use Rattle.pages.proofs.ordering.line_of.Tie as tie
+
+times-at-requires : tie.Need-times-at-requires
+times-at-requires c κs = search needs
+
+text-of-requires : tie.Need-text-of-requires
+text-of-requires c κs = search needs
+
+returns : tie.Need-returns
+unfolding lineOf decode
+returns c = cc
+
+pub line-of-spec : {M : Type 1} → statement M
+line-of-spec = tie.close (tie.spec times-at-requires text-of-requires returns)

@@ -1,0 +1,32 @@
+-- `page_codes` meets its contract: collected in the book's order, then ordered, by `page-codes`.
+-- Assumes nothing.
+use mathlib.Core.Path.{_≡_, sym, _∙_, ap}
+use native.Mathlib.Omega.{arith}
+use Rattle.pages.specs.CodeLaws.{page-codes, ordered-front}
+use Rattle.order.specs.Codes.{high}
+use Rattle.prelude.specs.Order.{sort}
+use borrow.Author.Needs.{needs}
+use Rattle.pages.proofs.ordering.page_codes.Statement.{statement}
+use Rattle.pages.proofs.ordering.page_codes.Tie as tie
+
+collect-requires : tie.Need-collect-requires
+collect-requires c κs = search needs
+
+order-codes-requires : tie.Need-order-codes-requires
+order-codes-requires c κs = search needs
+
+same-length : tie.Need-same-length
+same-length c = search needs
+
+same-length-2 : tie.Need-same-length-2
+same-length-2 c = search needs
+
+returns : tie.Need-returns
+returns c =
+    let o = c .before .before .before .before in
+    let k = o .before .before .before .before .before in
+    (omega arith, ordered-front (k .collect .last .1 .1 .1 .0) (k .collect .result) (omega arith) (o .order-codes .ensures) ∙ ap (sort high) (k .collect .ensures .1) ∙ sym (page-codes _ _))
+
+pub page-codes-spec : {M : Type 1} → statement M
+page-codes-spec =
+    tie.close (tie.spec collect-requires order-codes-requires same-length same-length-2 returns)

@@ -1,0 +1,59 @@
+-- Laws of the search: its turns, and what its answers say.
+-- Assumes nothing.
+use Prim.Native.Nat.{ℕ, zero, suc, _+_, _-_, _<_, _≤_}
+use mathlib.Core.Path.{_≡_, refl, sym, _∙_, ap}
+use mathlib.Core.Bool.{Bool, true, false}
+use native.Mathlib.Omega.{arith}
+use Rattle.prelude.specs.Choice.{is-true, is-false, b-elim, lt-elim}
+use Rattle.days.specs.Days.{lastDay}
+use Rattle.pages.specs.Next.{foundOn, noneFrom, firstOf, nextOf}
+use Rattle.pages.specs.declared.types.Occurrence.{Occurrence}
+use Rattle.pages.specs.declared.types.NextAnswer.{NextAnswer}
+
+module _ (p : ℕ → Bool) (asked : ℕ) where
+  -- what is still to be looked at from day d on
+  abbrev pub from : ℕ → NextAnswer
+  from d = firstOf p asked (lastDay + 1 - d) d
+
+  turn : (d : ℕ) → d ≤ lastDay → from d ≡ firstOf p asked (suc (lastDay - d)) d
+  turn d h = let e : lastDay + 1 - d ≡ suc (lastDay - d) = omega arith in rw e
+
+  pub from-found : (d : ℕ) → d ≤ lastDay → p d ≡ true → from d ≡ foundOn asked d
+  unfolding firstOf
+  from-found d h e = turn d h ∙ is-true e _ _
+
+  pub from-next : (d : ℕ) → d < lastDay → p d ≡ false → from d ≡ from (suc d)
+  unfolding firstOf
+  from-next d h e = turn d (omega arith) ∙ is-false e _ _ ∙ let k : lastDay - d ≡ lastDay + 1 - suc d = omega arith in rw k
+
+  pub from-none : p lastDay ≡ false → from lastDay ≡ noneFrom asked
+  unfolding firstOf
+  from-none e = turn lastDay (omega arith) ∙ is-false e _ _
+
+-- what the answers say, for any test of days
+pub record FirstDay (p : ℕ → Bool) (asked found : ℕ) : Type 0 where
+  pub at : asked ≤ found
+  pub most : found ≤ lastDay
+  pub passes : p found ≡ true
+  pub none : (d : ℕ) → asked ≤ d → d < found → p d ≡ false
+
+abbrev pub Told : (ℕ → Bool) → ℕ → NextAnswer → Type 0
+Told p asked (NextAnswer.Found o) = FirstDay p asked (o .day .0) × (o .looked ≡ o .day .0 - asked + 1)
+Told p asked (NextAnswer.NoneLeft n) = ((d : ℕ) → asked ≤ d → d ≤ lastDay → p d ≡ false) × (n ≡ lastDay + 1 - asked)
+Told p asked (NextAnswer.Refused e) = Unit {0}
+
+told-from :
+    (p : ℕ → Bool) (asked k d : ℕ) → asked ≤ d → d + k ≡ lastDay + 1 → ((b : ℕ) → asked ≤ b → b < d → p b ≡ false)
+    → Told p asked (firstOf p asked k d)
+unfolding firstOf
+told-from p asked zero d l e h = (λ b m n. h b m (omega arith), refl)
+told-from p asked (suc k) d l e h =
+    b-elim (Told p asked) (p d) _ _
+    (λ t. (record { at = l; most = omega arith; passes = t; none = h }, refl))
+    (λ t. told-from p asked k (suc d) (omega arith) (omega arith)
+    (λ b m n. lt-elim {X = Unit {0}} (λ _. p b ≡ false) b d tt tt (λ i. h b m i) (λ i. let q : b ≡ d = omega arith in ap p q ∙ t)))
+
+-- the search tells the truth: the first day that passes, or that none does
+pub next-told : (p : ℕ → Bool) (asked : ℕ) → asked ≤ lastDay → Told p asked (nextOf p asked)
+unfolding nextOf
+next-told p asked h = told-from p asked (lastDay + 1 - asked) asked (omega arith) (omega arith) (λ b m n. absurd (let z : _≡_ {A = ℕ} 0 1 = omega arith in omega arith))

@@ -1,0 +1,98 @@
+// One pass over the book: the records that fall on a day, counted or collected as codes.
+ghost use mathlib.Core.Path.{_≡_};
+ghost use mathlib.Core.List.{map};
+ghost use Prim.Native.Nat.{_≤_, _<_};
+ghost use lib.ListN.{length, take};
+ghost use Rattle.prelude.specs.Keep.{keep};
+ghost use Rattle.book.specs.Books.{entryAt};
+ghost use Rattle.falls.specs.Falls.{falls};
+ghost use Rattle.falls.specs.Times.{timesOf};
+ghost use Rattle.pages.specs.Pages.{numbered, fallsOn, pageOn};
+ghost use Rattle.pages.specs.Codes.{codeWith, code};
+ghost use Rattle.pages.specs.PageLaws.{ReadyBook};
+use crate::types::Ready;
+use book::entries::next_place;
+use days::types::DayFacts;
+use falls::rules::falls_on;
+use falls::times::times_of;
+use falls::types::ShortMonth;
+use falls::types::Times;
+use prelude::slices::byte;
+use prelude::slices::part;
+use prelude::slices::word;
+
+// Whether the record at a place falls on a day.
+pub fn falls_at(file: &[u8], at: usize, c: ShortMonth, f: DayFacts) -> bool
+    requires { ⌜ at ≤ 65535 ⌝ }
+    ensures { λ r. ⌜ r ≡ falls c f (entryAt (now (file .entry)) at .«record») ⌝ }
+{
+    let t = byte(file, at);
+    let l = word(file, at + 1) as usize;
+    let p = part(file, at + 3, l);
+    falls_on(c, f, t, p)
+}
+
+// The hours and the alarm mark of the record at a place.
+pub fn times_at(file: &[u8], at: usize) -> Times
+    requires { ⌜ at ≤ 65535 ⌝ }
+    ensures { λ r. ⌜ r ≡ timesOf (entryAt (now (file .entry)) at .«record») ⌝ }
+{
+    let t = byte(file, at);
+    let l = word(file, at + 1) as usize;
+    let p = part(file, at + 3, l);
+    times_of(t, p)
+}
+
+// How many records fall on the day.
+pub fn count_lines(file: &[u8], c: ShortMonth, a: Ready) -> usize
+    requires { ⌜ ReadyBook (now file) a ⌝ }
+    ensures { λ r. ⌜ r ≡ length (pageOn c (a .facts) (now (file .entry))) ⌝ }
+{
+    let f = a.facts;
+    let mut at: usize = 12;
+    let mut n: usize = 0;
+    let mut count: usize = 0;
+    while n < a.records {
+        let here = at;
+        at = next_place(file, here);
+        n += 1;
+        if falls_at(file, here, c, f) {
+            count += 1;
+        }
+    }
+    count
+}
+
+fn code_of(start: u16, number: usize, place: usize) -> u64
+    requires { ⌜ number < 65536 ⌝ }
+    requires { ⌜ place < 65536 ⌝ }
+    ensures { λ r. ⌜ r ≡ codeWith start number place ⌝ }
+{
+    (start as u64) * 4294967296 + (number as u64) * 65536 + (place as u64)
+}
+
+// The codes of the records that fall on the day, in the book's order, from the first of the lent ones on.
+pub fn collect(file: &[u8], c: ShortMonth, a: Ready, codes: &mut [u64]) -> usize
+    requires { ⌜ ReadyBook (now file) a ⌝ }
+    requires { ⌜ a .records ≤ length (now codes) ⌝ }
+    ensures { λ r. ⌜ r ≤ length (now (codes .entry)) ⌝ }
+    ensures { λ r.
+        ⌜ take r (now (codes .exit)) ≡ map code (keep (fallsOn c (a .facts)) (numbered (now (file .entry)))) ⌝ }
+{
+    let f = a.facts;
+    let mut at: usize = 12;
+    let mut n: usize = 0;
+    let mut count: usize = 0;
+    while n < a.records {
+        let here = at;
+        let number = n;
+        at = next_place(file, here);
+        n += 1;
+        if falls_at(file, here, c, f) {
+            let times = times_at(file, here);
+            codes[count] = code_of(times.start.0, number, here);
+            count += 1;
+        }
+    }
+    count
+}

@@ -1,0 +1,67 @@
+// A day's page: how many lines it has, and the line at a place.
+ghost use mathlib.Core.Path.{_≡_};
+ghost use Rattle.pages.specs.Answers.{asked, countIn, lineIn, lineText};
+ghost use Rattle.pages.specs.PageLaws.{ReadyBook};
+use crate::asking::ask;
+use crate::collecting::count_lines;
+use crate::ordering::line_of;
+use crate::ordering::page_codes;
+use crate::types::Asked;
+use crate::types::CountAnswer;
+use crate::types::LineAnswer;
+use crate::types::Ready;
+use days::types::CalendarDay;
+use falls::types::ShortMonth;
+use prelude::refusals::NO_SUCH_NUMBER;
+use prelude::refusals::Refusal;
+use prelude::slices::part;
+
+// The number of lines of a day's page.
+pub fn page_lines(file: &[u8], n: CalendarDay, c: ShortMonth) -> CountAnswer
+    ensures { λ r. ⌜ r ≡ countIn (now (file .entry)) c (asked (now (file .entry)) n) ⌝ }
+{
+    let a = ask(file, n);
+    match a {
+        Asked::Ready(b) => CountAnswer::Count(count_lines(file, c, b)),
+        Asked::Refused(e) => CountAnswer::Refused(e),
+    }
+}
+
+fn line_in(file: &[u8], c: ShortMonth, k: usize, a: Ready) -> LineAnswer
+    requires { ⌜ ReadyBook (now file) a ⌝ }
+    ensures { λ r. ⌜ r ≡ lineIn (now (file .entry)) c k (Asked.Ready a) ⌝ }
+{
+    let mut codes = [0u64; 4680];
+    let mut spare = [0u64; 4680];
+    let n = page_codes(file, c, a, &mut codes, &mut spare);
+    if k < n {
+        return LineAnswer::Line(line_of(file, codes[k]));
+    }
+    LineAnswer::Refused(Refusal {
+        number: NO_SUCH_NUMBER,
+        place: 0,
+    })
+}
+
+// The line at a place of a day's page.
+pub fn line_at(file: &[u8], n: CalendarDay, c: ShortMonth, k: usize) -> LineAnswer
+    ensures { λ r. ⌜ r ≡ lineIn (now (file .entry)) c k (asked (now (file .entry)) n) ⌝ }
+{
+    let a = ask(file, n);
+    match a {
+        Asked::Ready(b) => line_in(file, c, k, b),
+        Asked::Refused(e) => LineAnswer::Refused(e),
+    }
+}
+
+// The text of that line, as that stretch of the caller's file; nothing where there is no such line.
+pub fn line_text(file: &[u8], n: CalendarDay, c: ShortMonth, k: usize) -> &[u8]
+    ensures { λ r.
+        ⌜ now r ≡ lineText (now (file .entry)) (lineIn (now (file .entry)) c k (asked (now (file .entry)) n)) ⌝ }
+{
+    let a = line_at(file, n, c, k);
+    match a {
+        LineAnswer::Line(l) => part(file, l.text.place, l.text.length),
+        LineAnswer::Refused(_) => &file[..0],
+    }
+}

@@ -1,0 +1,73 @@
+// A page as codes in order, and the line of a code.
+ghost use mathlib.Core.Path.{_≡_};
+ghost use mathlib.Core.List.{map};
+ghost use Prim.Native.Nat.{_≤_};
+ghost use lib.ListN.{length, take};
+ghost use Rattle.book.specs.Books.{entryAt};
+ghost use Rattle.pages.specs.Pages.{pageOn, lineOf};
+ghost use Rattle.pages.specs.Codes.{code as codeOf, decode};
+ghost use Rattle.pages.specs.PageLaws.{ReadyBook};
+use crate::collecting::collect;
+use crate::collecting::times_at;
+use crate::types::Line;
+use crate::types::Ready;
+use falls::types::ShortMonth;
+use order::ordering::order_codes;
+use prelude::slices::byte;
+use prelude::slices::part;
+use prelude::slices::word;
+use records::fields::fixed_of;
+use records::fields::text_length;
+use records::types::Stretch;
+
+// The codes of a day's page, in its order, from the first of the lent ones on.
+pub fn page_codes(
+    file: &[u8],
+    c: ShortMonth,
+    a: Ready,
+    codes: &mut [u64],
+    spare: &mut [u64],
+) -> usize
+    requires { ⌜ ReadyBook (now file) a ⌝ }
+    requires { ⌜ a .records ≤ length (now codes) ⌝ }
+    requires { ⌜ length (now codes) ≤ length (now spare) ⌝ }
+    ensures { λ r. ⌜ r ≤ length (now (codes .entry)) ⌝ }
+    ensures { λ r. ⌜ take r (now (codes .exit)) ≡ map codeOf (pageOn c (a .facts) (now (file .entry))) ⌝ }
+{
+    let n = collect(file, c, a, codes);
+    order_codes(codes, spare, n);
+    n
+}
+
+// Where the text of the record at a place lies.
+pub fn text_of(file: &[u8], at: usize) -> Stretch
+    requires { ⌜ at ≤ 65535 ⌝ }
+    ensures { λ r. ⌜ r ≡ entryAt (now (file .entry)) at .text ⌝ }
+{
+    let t = byte(file, at);
+    let l = word(file, at + 1) as usize;
+    let p = part(file, at + 3, l);
+    Stretch {
+        place: at + 3 + fixed_of(t),
+        length: text_length(t, p) as usize,
+    }
+}
+
+// The line of a code.
+pub fn line_of(file: &[u8], code: u64) -> Line
+    ensures { λ r. ⌜ r ≡ lineOf (decode (now (file .entry)) code) ⌝ }
+{
+    let number = (code / 65536 % 65536) as usize;
+    let at = (code % 65536) as usize;
+    let times = times_at(file, at);
+    let start = times.start;
+    let end = times.end;
+    let text = text_of(file, at);
+    Line {
+        number,
+        start,
+        end,
+        alarm: times.alarm,
+        text,
+    }
+}

@@ -1,0 +1,54 @@
+// What the questions about a book and a day give.
+use days::types::CalendarDay;
+use days::types::DayFacts;
+use days::types::Minute;
+use prelude::refusals::Refusal;
+use records::types::Stretch;
+
+// An accepted book's number of records, and the facts of a day in range.
+pub struct Ready {
+    pub records: usize,
+    pub facts: DayFacts,
+}
+
+pub enum Asked {
+    Ready(Ready),
+    Refused(Refusal),
+}
+
+// A line of a page: the record's number, its hours, its alarm mark, and where its text lies in the file.
+pub struct Line {
+    pub number: usize,
+    pub start: Minute,
+    pub end: Minute,
+    pub alarm: bool,
+    pub text: Stretch,
+}
+
+pub enum FallsAnswer {
+    Falls(bool),
+    Refused(Refusal),
+}
+
+pub enum CountAnswer {
+    Count(usize),
+    Refused(Refusal),
+}
+
+pub enum LineAnswer {
+    Line(Line),
+    Refused(Refusal),
+}
+
+// The day found, and how many days were looked at, from the asked day through the found one.
+pub struct Occurrence {
+    pub day: CalendarDay,
+    pub looked: u32,
+}
+
+// The next occurrence; or none up to the last day, with the number of days looked at.
+pub enum NextAnswer {
+    Found(Occurrence),
+    NoneLeft(u32),
+    Refused(Refusal),
+}

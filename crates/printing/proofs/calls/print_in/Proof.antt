@@ -1,0 +1,34 @@
+-- `print_in` meets its contract: the room decides both the answer and the buffer.
+-- Assumes nothing.
+use mathlib.Core.Path.{refl, _∙_, ap}
+use native.Mathlib.Omega.{arith}
+use native.Mathlib.Nat.{zero-add}
+use borrow.Author.Needs.{needs}
+use Rattle.prelude.specs.Choice.{lt-yes, lt-no}
+use Rattle.pages.specs.declared.types.CountAnswer.{CountAnswer}
+use Rattle.printing.specs.Answers.{printIn, printLeaves}
+use Rattle.printing.proofs.calls.print_in.Statement.{statement}
+use Rattle.printing.proofs.calls.print_in.Tie as tie
+
+page-size-requires : tie.Need-page-size-requires
+page-size-requires c κs = search needs
+
+returns : tie.Need-returns
+unfolding printIn printLeaves
+returns c = (lt-yes _ _ _ (omega arith) refl, lt-yes _ _ _ (omega arith) refl)
+
+put-page-requires : tie.Need-put-page-requires
+put-page-requires c κs = search needs
+
+same-length : tie.Need-same-length
+same-length c = search needs
+
+returns-2 : tie.Need-returns-2
+unfolding printIn printLeaves
+returns-2 c =
+    let p = c .before .before in
+    (lt-no _ _ _ (omega arith) (ap CountAnswer.Count (p .put-page .ensures .0 ∙ zero-add _)), lt-no _ _ _ (omega arith) (p .put-page .ensures .1))
+
+pub print-in-spec : {M : Type 1} → statement M
+print-in-spec =
+    tie.close (tie.spec page-size-requires returns put-page-requires same-length returns-2)

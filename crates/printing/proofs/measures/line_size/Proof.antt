@@ -1,0 +1,27 @@
+-- `line_size` meets its contract: thirteen bytes, and the text's.
+-- Assumes nothing.
+use Prim.Native.Nat.{ℕ, _+_}
+use mathlib.Core.Path.{_∙_, ap}
+use mathlib.Core.List.{List}
+use lib.ListN.{length}
+use Rattle.records.specs.declared.types.Stretch.{Stretch}
+use Rattle.printing.specs.Printed.{stretch}
+use borrow.Author.Needs.{needs}
+use Rattle.printing.proofs.measures.line_size.Statement.{statement}
+use Rattle.printing.proofs.measures.line_size.Tie as tie
+
+text-of-requires : tie.Need-text-of-requires
+text-of-requires c κs = search needs
+
+part-requires : tie.Need-part-requires
+part-requires c κs = search needs
+
+add-result : tie.Need-add-result
+add-result c = search needs
+
+returns : tie.Need-returns
+returns c =
+    ap (λ (xs : List ℕ). 13 + length xs) (c .part .ensures ∙ ap (λ (s : Stretch). stretch (c .before .before .before .args .file .now) s) (c .before .text-of .ensures))
+
+pub line-size-spec : {M : Type 1} → statement M
+line-size-spec = tie.close (tie.spec text-of-requires part-requires add-result returns)

@@ -1,0 +1,29 @@
+-- What printing a page gives, document 01 "Order": the book's refusals first, then 11, then 12.
+-- Assumes nothing.
+use Prim.Native.Nat.{ℕ}
+use mathlib.Core.List.{List}
+use lib.ListN.{length}
+use Rattle.prelude.specs.Choice.{ifLt}
+use Rattle.prelude.specs.Splice.{splice}
+use Rattle.prelude.specs.Refusals.{noRoom, refusal}
+use Rattle.falls.specs.declared.types.ShortMonth.{ShortMonth}
+use Rattle.pages.specs.declared.types.Asked.{Asked}
+use Rattle.pages.specs.declared.types.CountAnswer.{CountAnswer}
+use Rattle.printing.specs.Printed.{pageText}
+
+-- how many bytes the printed page has
+unfoldable pub lengthIn : List ℕ → ShortMonth → Asked → CountAnswer
+lengthIn f c (Asked.Ready a) = CountAnswer.Count (length (pageText f c (a .facts)))
+lengthIn f c (Asked.Refused e) = CountAnswer.Refused e
+
+-- "12: lent buffer shorter than the .. list to be written"; else how many bytes were written
+unfoldable pub printIn : List ℕ → ShortMonth → ℕ → Asked → CountAnswer
+printIn f c room (Asked.Ready a) =
+    ifLt room (length (pageText f c (a .facts))) (CountAnswer.Refused (refusal noRoom)) (CountAnswer.Count (length (pageText f c (a .facts))))
+printIn f c room (Asked.Refused e) = CountAnswer.Refused e
+
+-- "No lent byte changes. After success, bytes past the written length are as before."
+unfoldable pub printLeaves : List ℕ → ShortMonth → List ℕ → Asked → List ℕ
+printLeaves f c out (Asked.Ready a) =
+    ifLt (length out) (length (pageText f c (a .facts))) out (splice out 0 (pageText f c (a .facts)))
+printLeaves f c out (Asked.Refused e) = out

@@ -1,0 +1,7 @@
+-- The printed page: how it looks, what the calls give, and its laws.
+pub mod Printed
+pub mod Answers
+pub mod Totals
+pub mod PrintedLaws
+pub mod SizeLaws
+pub mod Examples

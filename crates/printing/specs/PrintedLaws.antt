@@ -1,0 +1,92 @@
+-- Laws of the printed page: how long its lines are, and the lines one by one as codes give them.
+-- Assumes nothing.
+use Prim.Native.Nat.{ℕ, _+_, _<_, _≤_}
+use mathlib.Core.Path.{_≡_, refl, sym, _∙_, ap}
+use mathlib.Core.List.{List, [], _∷_, _++_, map}
+use native.Mathlib.Omega.{arith}
+use native.Mathlib.Numerals.{add-one}
+use lib.ListN.{length, getD, take, drop, length-append, length-map, drop-of-length-le}
+use lib.Seq.{drop-cons, length-take-le}
+use Rattle.prelude.specs.Choice.{eq-elim}
+use Rattle.days.specs.declared.types.Date.{Date}
+use Rattle.days.specs.declared.types.DayFacts.{DayFacts}
+use Rattle.digits.specs.Digits.{two, four, decimal}
+use Rattle.falls.specs.declared.types.ShortMonth.{ShortMonth}
+use Rattle.pages.specs.Pages.{Numbered, fallsOn, pageOn, lineOf}
+use Rattle.pages.specs.Codes.{code, decode}
+use Rattle.pages.specs.PageLaws.{ReadyBook}
+use Rattle.pages.specs.DecodeLaws.{page-decoded}
+use Rattle.pages.specs.declared.types.Ready.{Ready}
+use Rattle.pages.specs.declared.types.Line.{Line}
+use Rattle.printing.specs.Printed.{dateText, weekdayName, headLine, clock, stretch, pageLine, pageLines, printed, pageText}
+use Rattle.printing.specs.Totals.{total}
+
+length-date : (d : Date) → length (dateText d) ≡ 10
+unfolding dateText two four
+length-date d = refl
+
+length-weekday : (w : ℕ) → length (weekdayName w) ≡ 3
+unfolding weekdayName
+length-weekday w =
+    eq-elim P w 1 _ _ (λ _. refl)
+    (λ _. eq-elim P w 2 _ _ (λ _. refl)
+    (λ _. eq-elim P w 3 _ _ (λ _. refl)
+    (λ _. eq-elim P w 4 _ _ (λ _. refl) (λ _. eq-elim P w 5 _ _ (λ _. refl) (λ _. eq-elim P w 6 _ _ (λ _. refl) (λ _. refl))))))
+  where
+    P : List ℕ → Type 0
+    P xs = length xs ≡ 3
+
+length-clock : (m : ℕ) → length (clock m) ≡ 5
+unfolding clock two
+length-clock m = refl
+
+pub length-head : (d : DayFacts) (n : ℕ) → length (headLine d n) ≡ 16 + length (decimal n)
+unfolding headLine
+length-head d n =
+    let a = length-date (d .date) in
+    let b = length-weekday (d .weekday) in
+    simp length-append (omega arith)
+
+pub length-line : (f : List ℕ) (l : Line) → length (pageLine f l) ≡ 13 + length (stretch f (l .text))
+unfolding pageLine
+length-line f l =
+    let a = length-clock (l .start .0) in
+    let b = length-clock (l .end .0) in
+    simp length-append (omega arith)
+
+-- what a record counts on a page
+abbrev pub lineSize : List ℕ → Numbered → ℕ
+lineSize f x = length (pageLine f (lineOf x))
+
+pub line-size : (f : List ℕ) (x : Numbered) → lineSize f x ≡ 13 + length (stretch f (x .entry .text))
+unfolding lineOf
+line-size f x = length-line f (lineOf x)
+
+pub length-lines : (f : List ℕ) (xs : List Numbered) → length (pageLines f (map lineOf xs)) ≡ total (lineSize f) xs
+unfolding pageLines total
+length-lines f [] = refl
+length-lines f (x ∷ xs) = length-append (pageLine f (lineOf x)) (pageLines f (map lineOf xs)) ∙ rw (length-lines f xs)
+
+-- the lines of codes
+abbrev pub linesOf : List ℕ → List ℕ → List Line
+linesOf f codes = map lineOf (map (decode f) codes)
+
+pub lines-next :
+    (f codes : List ℕ) (i : ℕ) → i < length codes
+    → pageLines f (linesOf f (drop i codes)) ≡ pageLine f (lineOf (decode f (getD codes i 0))) ++ pageLines f (linesOf f (drop (i + 1) codes))
+unfolding pageLines
+lines-next f codes i h = rw (drop-cons codes i 0 h, add-one i)
+
+pub lines-end : (f codes : List ℕ) (i : ℕ) → length codes ≤ i → pageLines f (linesOf f (drop i codes)) ≡ []
+unfolding pageLines
+lines-end f codes i h = rw (drop-of-length-le codes h)
+
+-- a page by its codes, as ordering leaves them
+pub page-of-codes :
+    (f : List ℕ) (c : ShortMonth) (a : Ready) (r : ℕ) (codes : List ℕ)
+    → ReadyBook f a → r ≤ length codes → take r codes ≡ map code (pageOn c (a .facts) f) → pageText f c (a .facts) ≡ headLine (a .facts) r ++ pageLines f (linesOf f (take r codes))
+unfolding pageText printed
+page-of-codes f c a r codes b h e =
+    let page = pageOn c (a .facts) f in
+    let n : length (map lineOf page) ≡ r = length-map page lineOf ∙ sym (length-map page code) ∙ ap length (sym e) ∙ length-take-le r codes h in
+    rw (n, e, page-decoded f (b .long) (b .size) (fallsOn c (a .facts)))

@@ -1,0 +1,59 @@
+// How many bytes a printed page has: one pass over the book, without any order.
+ghost use mathlib.Core.Path.{_≡_};
+ghost use mathlib.Core.List.{map};
+ghost use Prim.Native.Nat.{_+_, _≤_};
+ghost use lib.ListN.{length};
+ghost use Rattle.book.specs.Books.{entryAt};
+ghost use Rattle.pages.specs.Pages.{pageOn, lineOf};
+ghost use Rattle.pages.specs.PageLaws.{ReadyBook};
+ghost use Rattle.printing.specs.Printed.{stretch, pageLines, pageText};
+use crate::types::Size;
+use book::entries::next_place;
+use digits::puts::decimal_length;
+use falls::types::ShortMonth;
+use pages::collecting::falls_at;
+use pages::ordering::text_of;
+use pages::types::Ready;
+use prelude::slices::part;
+
+// The bytes of the line of the record at a place.
+fn line_size(file: &[u8], at: usize) -> usize
+    requires { ⌜ at ≤ 65535 ⌝ }
+    ensures { λ r. ⌜ r ≡ 13 + length (stretch (now (file .entry)) (entryAt (now (file .entry)) at .text)) ⌝ }
+{
+    let s = text_of(file, at);
+    let text = part(file, s.place, s.length);
+    13 + text.len()
+}
+
+// The lines of a day's page and their bytes.
+fn measure(file: &[u8], c: ShortMonth, a: Ready) -> Size
+    requires { ⌜ ReadyBook (now file) a ⌝ }
+    ensures { λ r. ⌜ r .lines ≡ length (pageOn c (a .facts) (now (file .entry))) ⌝ }
+    ensures { λ r. ⌜ r .bytes ≡ length (pageLines (now (file .entry)) (map lineOf (pageOn c (a .facts) (now (file .entry))))) ⌝ }
+{
+    let f = a.facts;
+    let mut at: usize = 12;
+    let mut n: usize = 0;
+    let mut lines: usize = 0;
+    let mut bytes: usize = 0;
+    while n < a.records {
+        let here = at;
+        at = next_place(file, here);
+        n += 1;
+        if falls_at(file, here, c, f) {
+            lines += 1;
+            bytes += line_size(file, here);
+        }
+    }
+    Size { lines, bytes }
+}
+
+// The bytes of the whole page.
+pub fn page_size(file: &[u8], c: ShortMonth, a: Ready) -> usize
+    requires { ⌜ ReadyBook (now file) a ⌝ }
+    ensures { λ r. ⌜ r ≡ length (pageText (now (file .entry)) c (a .facts)) ⌝ }
+{
+    let s = measure(file, c, a);
+    16 + decimal_length(s.lines) + s.bytes
+}

@@ -1,0 +1,94 @@
+//! When a record falls, found in a third way: not by asking day after day, but by going from one
+//! occurrence to the next, and by the formulas of `civil`.
+
+use crate::civil;
+use crate::days::{Date, FIRST_YEAR, LAST_DAY, LAST_YEAR};
+use crate::pages::ShortMonth;
+use crate::records::{Entry, Rule};
+
+/// All days on which it falls, rising.
+pub fn occurrences(entry: &Entry, choice: ShortMonth) -> Vec<u16> {
+    match *entry {
+        Entry::Dated { date, .. } => vec![day(date)],
+        Entry::Repeated { rule, first, last, .. } => {
+            let (first, last) = (day(first), day(last));
+            let mut days = days_of_rule(rule, first, choice);
+            days.retain(|day| (first..=last).contains(day));
+            days
+        }
+        Entry::ToDo { .. } => vec![],
+    }
+}
+
+/// The first such day at or after `from`: the fastest way known, for the bench.
+pub fn soonest(entry: &Entry, from: u16, choice: ShortMonth) -> Option<u16> {
+    match *entry {
+        Entry::Dated { date, .. } => Some(day(date)).filter(|&day| day >= from),
+        Entry::Repeated { rule, first, last, .. } => {
+            let from = from.max(day(first));
+            let date = civil::date_of_day(from).ok()?;
+            let months =
+                (12 * date.year + date.month - 1..12 * (LAST_YEAR + 1)).map(|n| (n / 12, n % 12 + 1));
+            let later = |&day: &u16| day >= from;
+            let found = match rule {
+                Rule::Weekly { weekday } => Some(from + (weekday + 7 - weekday_of(from)) % 7),
+                Rule::MonthlyByDate { day } => {
+                    months.filter_map(|(year, month)| made(year, month, day, choice)).find(later)
+                }
+                Rule::MonthlyByPosition { week, weekday } => {
+                    months.filter_map(|(year, month)| nth_weekday(year, month, week, weekday)).find(later)
+                }
+                Rule::Yearly { month, day } => {
+                    (date.year..=LAST_YEAR).filter_map(|year| made(year, month, day, choice)).find(later)
+                }
+            };
+            found.filter(|&found| found <= day(last))
+        }
+        Entry::ToDo { .. } => None,
+    }
+}
+
+/// From `first` on or from before it.
+fn days_of_rule(rule: Rule, first: u16, choice: ShortMonth) -> Vec<u16> {
+    let months = || (FIRST_YEAR..=LAST_YEAR).flat_map(|year| (1..=12).map(move |month| (year, month)));
+    match rule {
+        Rule::Weekly { weekday } => {
+            let wait = (weekday + 7 - weekday_of(first)) % 7;
+            (first + wait..=LAST_DAY).step_by(7).collect()
+        }
+        Rule::MonthlyByDate { day } => {
+            months().filter_map(|(year, month)| made(year, month, day, choice)).collect()
+        }
+        Rule::MonthlyByPosition { week, weekday } => {
+            months().filter_map(|(year, month)| nth_weekday(year, month, week, weekday)).collect()
+        }
+        Rule::Yearly { month, day } => {
+            (FIRST_YEAR..=LAST_YEAR).filter_map(|year| made(year, month, day, choice)).collect()
+        }
+    }
+}
+
+fn day(date: Date) -> u16 {
+    civil::day_of_date(date).expect("a real date")
+}
+
+/// 1 January 1980 was a Tuesday, 3.
+fn weekday_of(day: u16) -> u16 {
+    (day % 7 + 3 - 1) % 7 + 1
+}
+
+/// The day of that date; where there is none, the last before it or nothing.
+fn made(year: u16, month: u16, wanted: u16, choice: ShortMonth) -> Option<u16> {
+    let real = |day| civil::day_of_date(Date { year, month, day }).ok();
+    match choice {
+        ShortMonth::Skip => real(wanted),
+        ShortMonth::Last => (1..=wanted).rev().find_map(real),
+    }
+}
+
+/// The n-th such weekday of a month, where it has so many.
+fn nth_weekday(year: u16, month: u16, n: u16, weekday: u16) -> Option<u16> {
+    let first = day(Date { year, month, day: 1 });
+    let nth = first + (weekday + 7 - weekday_of(first)) % 7 + 7 * (n - 1);
+    civil::date_of_day(nth).is_ok_and(|date| date.month == month).then_some(nth)
+}

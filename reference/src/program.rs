@@ -1,0 +1,55 @@
+//! Document 01, "What we read, write and show": the small program, as a function of its command line and its
+//! standard input.
+
+use crate::book;
+use crate::export::export;
+use crate::pages::ShortMonth;
+use crate::printed::printed_page;
+use crate::refusal::{Refusal, OUT_OF_RANGE};
+
+/// Whether the proved program exports; until then two numbers are answered as anything else is.
+pub const EXPORT_LANDED: bool = false;
+
+/// For a Calendar file.
+pub const ROOM: usize = 65_536;
+
+/// What it writes to standard output. `words`: the command line without the program's name.
+pub fn output(words: &[Vec<u8>], input: &[u8]) -> Vec<u8> {
+    output_of(words, input, EXPORT_LANDED)
+}
+
+pub fn output_of(words: &[Vec<u8>], input: &[u8], exports: bool) -> Vec<u8> {
+    answer(words, input, exports)
+        .unwrap_or_else(|Refusal { number, place }| format!("{number} {place}\n").into_bytes())
+}
+
+fn answer(words: &[Vec<u8>], input: &[u8], exports: bool) -> Result<Vec<u8>, Refusal> {
+    book::read_book(input)?;
+    let (numbers, choice) = match words.split_last() {
+        Some((word, others)) if word == b"skip" => (others, ShortMonth::Skip),
+        Some((word, others)) if word == b"last" => (others, ShortMonth::Last),
+        _ => (words, ShortMonth::default()),
+    };
+    match numbers {
+        [day] => printed_page(input, number(day)?, choice),
+        [first, count] if exports => {
+            let mut file = vec![0; ROOM];
+            let length = export(input, number(first)?, number(count)?, choice, &mut file)?;
+            file.truncate(length);
+            Ok(file)
+        }
+        _ => Err(OUT_OF_RANGE),
+    }
+}
+
+/// One or more decimal digits and nothing else. A number over 65,535 is out of every range.
+fn number(word: &[u8]) -> Result<u16, Refusal> {
+    if word.is_empty() {
+        return Err(OUT_OF_RANGE);
+    }
+    word.iter().try_fold(0u16, |number, &byte| {
+        let digit = byte.checked_sub(b'0').filter(|&digit| digit <= 9).ok_or(OUT_OF_RANGE)?;
+        let tens = number.checked_mul(10).ok_or(OUT_OF_RANGE)?;
+        tens.checked_add(digit.into()).ok_or(OUT_OF_RANGE)
+    })
+}

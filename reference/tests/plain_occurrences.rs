@@ -1,0 +1,128 @@
+//! When a record falls, by the plain reference: set P, and every rule against a third way to find the days.
+
+use reference::book;
+use reference::books::{book_near, edge_day, near, Draft};
+use reference::days::{day_facts, Date, Facts, LAST_DAY};
+use reference::occurrences::{occurrences, soonest};
+use reference::pages::ShortMonth::{self, Last, Skip};
+use reference::pages::{self, Search, CHOICES};
+use reference::records::{self, Entry, Rule, Times};
+use reference::rng::Rng;
+use reference::vectors::every_kind;
+
+const FIRST: Date = Date { year: 1980, month: 1, day: 1 };
+const END: Date = Date { year: 2099, month: 12, day: 31 };
+
+fn repeated(rule: Rule, first: Date, last: Date) -> Entry {
+    Entry::Repeated { rule, first, last, times: Times { start: 0, end: 0, lead: 0 } }
+}
+
+fn in_month(rule: Rule, year: u16, month: u16, length: u16) -> Entry {
+    repeated(rule, Date { year, month, day: 1 }, Date { year, month, day: length })
+}
+
+fn all_facts() -> Vec<Facts> {
+    (0..=LAST_DAY).map(|day| day_facts(day).expect("a Calendar day")).collect()
+}
+
+/// Both ways agree on every day there is; gives the days.
+fn all_days(entry: &Entry, choice: ShortMonth, facts: &[Facts]) -> Vec<u16> {
+    let falling = facts.iter().filter(|facts| pages::falls(entry, facts, choice));
+    let days: Vec<u16> = falling.map(|facts| facts.calendar_day).collect();
+    assert_eq!(days, occurrences(entry, choice), "{entry:?} {choice:?}");
+    days
+}
+
+/// Document 01, set P, as far as it is about records; its dates are in days.rs.
+#[test]
+fn set_p() {
+    let facts = all_facts();
+    let days = |entry, choice| all_days(&entry, choice, &facts);
+    for choice in CHOICES {
+        let second_tuesday = Rule::MonthlyByPosition { week: 2, weekday: 3 };
+        assert_eq!(days(in_month(second_tuesday, 1993, 3, 31), choice), [4_816]);
+        let fifth_monday = Rule::MonthlyByPosition { week: 5, weekday: 2 };
+        assert_eq!(days(in_month(fifth_monday, 1993, 3, 31), choice), [4_836]);
+    }
+    let on_31 = in_month(Rule::MonthlyByDate { day: 31 }, 1993, 4, 30);
+    assert_eq!(days(on_31, Skip), []);
+    assert_eq!(days(on_31, Last), [4_868]);
+    let leap_day = in_month(Rule::Yearly { month: 2, day: 29 }, 1993, 2, 28);
+    assert_eq!(days(leap_day, Skip), []);
+    assert_eq!(days(leap_day, Last), [4_807]);
+    // The weekly record of every_kind: Tuesdays from 16 March 1993.
+    let found = pages::next_occurrence(&every_kind(), 1, 4_822, Skip);
+    assert_eq!(found, Ok(Search { day: Some(4_823), looked: 2 }));
+}
+
+/// Every rule there is, over all days.
+#[test]
+fn every_rule() {
+    let facts = all_facts();
+    let weekly = (1..=7).map(|weekday| Rule::Weekly { weekday });
+    let monthly = (1..=31).map(|day| Rule::MonthlyByDate { day });
+    let position =
+        (1..=5).flat_map(|week| (1..=7).map(move |weekday| Rule::MonthlyByPosition { week, weekday }));
+    let yearly = facts[..366].iter().map(|day| Rule::Yearly { month: day.date.month, day: day.date.day });
+    for rule in weekly.chain(monthly).chain(position).chain(yearly) {
+        let [skip, last] = CHOICES.map(|choice| all_days(&repeated(rule, FIRST, END), choice, &facts));
+        match rule {
+            Rule::MonthlyByDate { .. } => assert_eq!(last.len(), 1_440),
+            Rule::Yearly { .. } => assert_eq!(last.len(), 120),
+            _ => assert_eq!(skip, last),
+        }
+        assert!(skip.iter().all(|day| last.binary_search(day).is_ok()));
+    }
+}
+
+/// A record of that kind: any, or one near a day, which half of them begin or end at.
+fn random_entry(kind: u8, rng: &mut Rng) -> Entry {
+    let draft = if rng.one_in(2) {
+        Draft::random(kind, rng)
+    } else {
+        let day = edge_day(rng);
+        near(day, kind, rng)
+    };
+    records::read(kind, 0, &draft.bytes()[3..]).expect("a right record").entry
+}
+
+#[test]
+fn random_records() {
+    let mut rng = Rng::for_test("random_records");
+    let facts = all_facts();
+    let mut days = [0; 6];
+    for _ in 0..3_000 {
+        let kind = rng.within(1..=6);
+        let entry = random_entry(kind as u8, &mut rng);
+        for choice in CHOICES {
+            days[kind - 1] += all_days(&entry, choice, &facts).len();
+        }
+    }
+    println!("days by kind: {days:?}");
+    assert!(days[..5].iter().all(|&days| days >= 500) && days[5] == 0);
+}
+
+#[test]
+fn random_searches() {
+    let mut rng = Rng::for_test("random_searches");
+    let (mut found, mut none) = (0, 0);
+    for _ in 0..1_500 {
+        let file = book_near(edge_day(&mut rng), 4, &mut rng).bytes;
+        for (number, record) in book::records(&file).expect("a right book").iter().enumerate() {
+            let choice = rng.pick(&CHOICES);
+            let days = occurrences(&record.entry, choice);
+            let last = days.last().map_or(0, |day| (day + 1).min(LAST_DAY));
+            for asked in [edge_day(&mut rng), rng.within(0..=LAST_DAY.into()) as u16, last] {
+                let search = pages::next_occurrence(&file, number, asked, choice);
+                let next = days.iter().find(|&&day| day >= asked).copied();
+                let to = next.unwrap_or(LAST_DAY);
+                let looked = u32::from(to) - u32::from(asked) + 1;
+                assert_eq!(search, Ok(Search { day: next, looked }), "{record:?} {asked} {choice:?}");
+                assert_eq!(soonest(&record.entry, asked, choice), next, "{record:?} {asked} {choice:?}");
+                *if next.is_some() { &mut found } else { &mut none } += 1;
+            }
+        }
+    }
+    println!("found {found}, none {none}");
+    assert!(found >= 3_000 && none >= 3_000);
+}

@@ -1,0 +1,78 @@
+//! Books on standard input: of full size and more, in pieces, or none.
+
+use super::{compare, program, run_slowly, said, words};
+use reference::books::{small, Field, File};
+use reference::program::output;
+use reference::rng::Rng;
+use reference::vectors::{every_kind, WHOLE_CASE};
+use std::ffi::OsStr;
+use std::process::Command;
+
+/// All records on one day.
+fn full_book(size: usize, rng: &mut Rng) -> Vec<u8> {
+    let record = || {
+        let mut draft = small(1, rng);
+        draft.put(Field::Date, [93, 3, 15]);
+        draft
+    };
+    File::full(size, record).bytes
+}
+
+#[test]
+fn long_books() {
+    let mut rng = Rng::for_test("long_books");
+    for size in [4_095, 4_096, 32_768, 65_534, 65_535] {
+        let file = full_book(size, &mut rng);
+        assert!(compare(&words([b"4822"]), &file).len() > size / 2);
+        compare(&words([b"4821", b"last"]), &file);
+        compare(&words([b"43830"]), &file);
+    }
+    let file = full_book(65_535, &mut rng);
+    for more in [1, 2, 465, 65_535, 65_536, 1_000_000, 8_000_000] {
+        let input = [&file[..], &vec![b'x'; more]].concat();
+        assert_eq!(compare(&words([b"4822"]), &input), b"1 0\n", "{more} more");
+        assert_eq!(compare(&[], &input), b"1 0\n", "{more} more");
+    }
+    assert_eq!(compare(&words([b"4822"]), &vec![0; 3_000_000]), b"1 0\n");
+}
+
+/// The same, however few bytes come at a time.
+#[test]
+fn slow_books() {
+    let mut rng = Rng::for_test("slow_books");
+    let full = full_book(65_535, &mut rng);
+    let command = words([b"4822"]);
+    for (file, lengths) in [
+        (WHOLE_CASE.to_vec(), &[1, 2, 5, 32][..]),
+        (every_kind(), &[1, 7, 182]),
+        (full.clone(), &[100, 4_095, 4_096, 4_097, 65_534]),
+        ([full, vec![50]].concat(), &[1_000, 65_535, 65_536]),
+    ] {
+        for &length in lengths {
+            let written = run_slowly(&command, file.chunks(length));
+            assert!(written == output(&command, &file), "{} bytes by {length}", file.len());
+        }
+    }
+}
+
+fn without_input(words: &[&str], how: &str) -> Vec<u8> {
+    let mut command = Command::new("sh");
+    let script = format!("exec \"$0\" \"$@\" {how}");
+    command.args([OsStr::new("-c"), OsStr::new(&script), program().as_os_str()]).args(words);
+    let output = command.output().unwrap_or_else(|e| panic!("{command:?}: {e}"));
+    said(&command, output)
+}
+
+#[test]
+fn empty_input() {
+    for words in [&["4822"][..], &["4822", "last"], &["43830"], &["x"], &[]] {
+        assert_eq!(without_input(words, "</dev/null"), b"2 0\n", "{words:?}");
+    }
+}
+
+#[test]
+fn closed_input() {
+    for words in [&["4822"][..], &["x"], &[]] {
+        assert_eq!(without_input(words, "<&-"), b"2 0\n", "{words:?}");
+    }
+}
