@@ -63,7 +63,8 @@ pub fn count_lines(file: &[u8], c: ShortMonth, a: Ready) -> usize
     count
 }
 
-fn code_of(start: u16, number: usize, place: usize) -> u64
+// A record as one number: its start minute, its number and its place.
+pub fn code_of(start: u16, number: usize, place: usize) -> u64
     requires { ⌜ number < 65536 ⌝ }
     requires { ⌜ place < 65536 ⌝ }
     ensures { λ r. ⌜ r ≡ codeWith start number place ⌝ }

@@ -1,0 +1,23 @@
+-- `settings_for` meets its contract: its callees give the three that are made.
+-- Assumes nothing.
+use Rattle.export.specs.Export.{settingsFor}
+use borrow.Author.Needs.{needs}
+use Rattle.exporting.proofs.settings.settings_for.Statement.{statement}
+use Rattle.exporting.proofs.settings.settings_for.Tie as tie
+
+mark-of-requires : tie.Need-mark-of-requires
+mark-of-requires c κs = search needs
+
+code-of-requires : tie.Need-code-of-requires
+code-of-requires c κs = search needs
+
+interval-of-requires : tie.Need-interval-of-requires
+interval-of-requires c κs = search needs
+
+returns : tie.Need-returns
+unfolding settingsFor
+returns c = cc
+
+pub settings-for-spec : {M : Type 1} → statement M
+settings-for-spec =
+    tie.close (tie.spec mark-of-requires code-of-requires interval-of-requires returns)

@@ -1,0 +1,137 @@
+-- The records of an accepted book on the days of a span: what the passes keep and weigh is what the export shows.
+-- Assumes nothing.
+use Prim.Native.Nat.{ℕ, _+_, _*_, _/_, _%_, _<_, _≤_}
+use mathlib.Core.Path.{_≡_, refl, sym, ap, _∙_}
+use mathlib.Core.Bool.{Bool, true, false, true≢false}
+use mathlib.Core.List.{List, [], _∷_, map, List·Memᴰ, List·Memᴰ·head, List·Memᴰ·tail}
+use native.Mathlib.Omega.{arith}
+use lib.ListN.{length, getD, drop, length-drop}
+use lib.Seq.{length-take-le}
+use Rattle.prelude.specs.Choice.{tested, is-true, is-false}
+use Rattle.prelude.specs.Keep.{keep, keep-nil, keep-yes, keep-no, keep-member}
+use Rattle.prelude.specs.Order.{sort, keep-sort}
+use Rattle.days.specs.Days.{lastDay}
+use Rattle.days.specs.Facts.{factsOf}
+use Rattle.records.specs.Fields.{textLength, noteLength}
+use Rattle.records.specs.Ranges.{recordOk}
+use Rattle.records.specs.JudgeLaws.{Judged, judged}
+use Rattle.book.specs.Walk.{typeAt, bodyAt}
+use Rattle.book.specs.Books.{bookOf, entryAt, placesOf}
+use Rattle.book.specs.BookLaws.{AcceptedBook}
+use Rattle.book.specs.WalkLaws.{RecordAt}
+use Rattle.book.specs.EntryLaws.{Inside, entry-inside, record-there}
+use Rattle.falls.specs.declared.types.ShortMonth.{ShortMonth}
+use Rattle.pages.specs.Pages.{Numbered, numbered, hours, startOf, pageOf}
+use Rattle.pages.specs.PageLaws.{recordAt}
+use Rattle.pages.specs.DecodeLaws.{Placed, placed, place-inside}
+use Rattle.export.specs.Export.{bit, textOf, appointmentsFor, showsUnder}
+use Rattle.export.specs.Totals.{total, total-nil, total-cons, total-keep}
+use Rattle.export.specs.RecordLaws.{sizeOf, GoodBook}
+use Rattle.export.specs.AppointmentLaws.{bit-most, length-for, bytes-for, alarms-for}
+use Rattle.spans.specs.Codes.{Spanned}
+use Rattle.spans.specs.CodeLaws.{facts-known}
+use Rattle.spans.specs.RuleLaws.{rule-falls}
+use Rattle.exporting.specs.Sums.{Sum}
+use Rattle.exporting.specs.Scatter.{someDay}
+use Rattle.exporting.specs.ScatterLaws.{some-yes}
+use Rattle.exporting.specs.Passes.{Counted, Sound, marked, keptIn, weighs, Weighed}
+
+-- a record that the walk judged fine
+pub sound-at : (f : List ℕ) (at : ℕ) → length f ≤ 65535 → RecordAt f at → Sound f at
+unfolding entryAt
+sound-at f at h r =
+    let j : Judged (typeAt f at) (bodyAt f at) = judged (typeAt f at) (bodyAt f at) (r .fine) in
+    let i : Inside f (entryAt f at) = entry-inside f at r in
+    record { place = omega (arith, r .body); fine = j .sound; text = omega (arith, i .text, i .note); short = j .text-most }
+
+module _ {f : List ℕ} {n : ℕ} (b : Counted f n) where
+  -- each record of the book is such a one
+  pub record Whole (x : Numbered) : Type 0 where
+    pub at : ℕ
+    pub entry : x .entry ≡ entryAt f at
+    pub sound : Sound f at
+
+  pub whole : {x : Numbered} → List·Memᴰ x (numbered f) → Whole x
+  whole {x} m =
+      let p : Placed f (placesOf f) 0 x = placed f m in
+      let at = getD (placesOf f) (p .index) 0 in
+      record {
+        at = at;
+        entry = ap (λ (y : Numbered). y .entry) (p .here);
+        sound = sound-at f at (b .size) (record-there f (b .long) (p .index) (p .inside));
+      }
+
+  -- its text is as long as it says
+  pub text-long : {x : Numbered} → Whole x → length (textOf f x) ≡ x .entry .text .length
+  text-long {x} w =
+      rw (w .entry) (length-take-le (entryAt f (w .at) .text .length) (drop (entryAt f (w .at) .text .place) f) (rw (length-drop (entryAt f (w .at) .text .place) f) (omega (arith, w .sound .text))))
+
+  -- it shows where its rule does
+  module _ {first : ℕ} {days : List ℕ} (s : Spanned first days) (c : ShortMonth) where
+    pub shows-marked : {x : Numbered} → Whole x → (k : ℕ) → k < length days → marked c days k x ≡ showsUnder c (first + k) x
+    shows-marked {x} w k l =
+        rw (s .each k l) (rule-falls c (facts-known (first + k) (omega (arith, s .end))) (x .entry .«record») (rw (w .entry) (w .sound .fine)))
+
+-- lists that keep the same
+keep-same : {A : Type 0} (p q : A → Bool) (xs : List A) → ((x : A) → List·Memᴰ x xs → p x ≡ q x) → keep p xs ≡ keep q xs
+unfolding keep
+keep-same p q [] e = refl
+keep-same p q (x ∷ xs) e = rw (e x (List·Memᴰ·head refl), keep-same p q xs (λ y m. e y (List·Memᴰ·tail m)))
+
+keep-keep : {A : Type 0} (p q : A → Bool) (xs : List A) → ((x : A) → p x ≡ true → q x ≡ true) → keep p (keep q xs) ≡ keep p xs
+keep-keep p q [] h = rw (keep-nil q)
+keep-keep p q (x ∷ xs) h =
+    tested (q x)
+    (λ t. rw (keep-yes q x xs t) (tested (p x) (λ u. rw (keep-yes p x _ u, keep-yes p x _ u, keep-keep p q xs h)) (λ u. rw (keep-no p x _ u, keep-no p x _ u) (keep-keep p q xs h))))
+    (λ t. rw (keep-no q x xs t) (tested (p x) (λ u. absurd (true≢false (sym (h x u) ∙ t))) (λ u. rw (keep-no p x _ u) (keep-keep p q xs h))))
+
+total-same : {A : Type 0} (w v : A → ℕ) (xs : List A) → ((x : A) → List·Memᴰ x xs → w x ≡ v x) → total w xs ≡ total v xs
+unfolding total
+total-same w v [] e = refl
+total-same w v (x ∷ xs) e = rw (e x (List·Memᴰ·head refl), total-same w v xs (λ y m. e y (List·Memᴰ·tail m)))
+
+-- the kept records, in order: each day finds its own among them
+pub kept-page : (f : List ℕ) (c : ShortMonth) (days : List ℕ) (k : ℕ) → k < length days → keep (marked c days k) (pageOf (keptIn c days) f) ≡ pageOf (marked c days k) f
+unfolding pageOf
+kept-page f c days k l =
+    keep-sort startOf (marked c days k) (keep (keptIn c days) (numbered f))
+    ∙ ap (sort startOf) (keep-keep (marked c days k) (keptIn c days) (numbered f) (λ x h. some-yes (λ j. marked c days j x) (length days) k l h))
+
+-- what a sum of weights holds
+weights : (f : List ℕ) (xs : List Numbered) → total (λ x. 4294967296 + bit (hours x .alarm) * 65536 + sizeOf f x) xs ≡ length xs * 4294967296 + total (λ x. bit (hours x .alarm)) xs * 65536 + total (sizeOf f) xs
+unfolding total
+weights f [] = refl
+weights f (x ∷ xs) = omega (arith, weights f xs)
+
+few-alarms : (f : List ℕ) (xs : List Numbered) → total (λ x. bit (hours x .alarm)) xs ≤ total (sizeOf f) xs
+unfolding total
+few-alarms f [] = omega arith
+few-alarms f (x ∷ xs) = omega (arith, few-alarms f xs, bit-most (hours x .alarm))
+
+parts-of : (s n a b : ℕ) → s ≡ n * 4294967296 + a * 65536 + b → a ≤ b → b ≤ 65535 → (s / 4294967296 ≡ n) × (s / 65536 % 65536 ≡ a) × (s % 65536 ≡ b)
+parts-of s n a b e l h = (omega arith, omega arith, omega arith)
+
+module _ {f : List ℕ} {n : ℕ} (b : Counted f n) (good : GoodBook f) {first : ℕ} {days : List ℕ} (span : Spanned first days) (c : ShortMonth) where
+  pub same-kept : (k : ℕ) → k < length days → keep (marked c days k) (numbered f) ≡ keep (showsUnder c (first + k)) (numbered f)
+  same-kept k l = keep-same (marked c days k) (showsUnder c (first + k)) (numbered f) (λ x m. shows-marked b span c (whole b m) k l)
+
+  pub same-page : (k : ℕ) → k < length days → pageOf (marked c days k) f ≡ pageOf (showsUnder c (first + k)) f
+  unfolding pageOf
+  same-page k l = ap (sort startOf) (same-kept k l)
+
+  -- the sum of a day's weights is the sum of its appointments
+  pub weighed-sum : (interval : ℕ) {sums : List ℕ} → Weighed f c days sums → (k : ℕ) → k < length days → Sum (getD sums k 0) (appointmentsFor (showsUnder c) f interval (first + k))
+  weighed-sum interval {sums} w k l =
+      let d = first + k in
+      let xs = keep (showsUnder c d) (numbered f) in
+      let same : (x : Numbered) → List·Memᴰ x xs → weighs x ≡ 4294967296 + bit (hours x .alarm) * 65536 + sizeOf f x =
+      λ x m. rw (text-long b (whole b (keep-member (showsUnder c d) m .0))) in
+      let e : getD sums k 0 ≡ length xs * 4294967296 + total (λ x. bit (hours x .alarm)) xs * 65536 + total (sizeOf f) xs =
+      w .each k l ∙ ap (total weighs) (same-kept k l) ∙ total-same weighs _ xs same ∙ weights f xs in
+      let most : total (sizeOf f) xs ≤ 65535 = omega (arith, total-keep (sizeOf f) (showsUnder c d) (numbered f), good .sum) in
+      let p = parts-of (getD sums k 0) (length xs) (total (λ x. bit (hours x .alarm)) xs) (total (sizeOf f) xs) e (few-alarms f xs) most in
+      record {
+        count = p .0 ∙ sym (length-for (showsUnder c) f interval d);
+        alarm = p .1 ∙ sym (alarms-for (showsUnder c) f interval d);
+        bytes = p .2 ∙ sym (bytes-for (showsUnder c) f interval d);
+      }

@@ -1,0 +1,189 @@
+-- A book ready to be filled in: its kept records in order, and the sums of the span. What each record finds and leaves.
+-- Assumes nothing.
+use Prim.Native.Nat.{ℕ, zero, suc, _+_, _-_, _*_, _%_, _<_, _≤_}
+use mathlib.Core.Path.{_≡_, refl, sym, ap, _∙_}
+use mathlib.Core.Bool.{Bool, true}
+use mathlib.Core.List.{List, [], _∷_, _++_, map, List·Memᴰ, List·Memᴰ·head, List·Memᴰ·tail}
+use native.Mathlib.Omega.{arith}
+use native.Mathlib.Nat.{zero-add}
+use lib.ListN.{length, getD}
+use Rattle.prelude.specs.Choice.{is-true}
+use Rattle.prelude.specs.Keep.{keep, keep-member}
+use Rattle.prelude.specs.Order.{sort, sort-member}
+use Rattle.book.specs.Books.{entryAt}
+use Rattle.book.specs.declared.types.Entry.{Entry}
+use Rattle.falls.specs.declared.types.ShortMonth.{ShortMonth}
+use Rattle.pages.specs.Pages.{Numbered, numbered, startOf, pageOf}
+use Rattle.order.specs.Codes.{high}
+use Rattle.pages.specs.Codes.{code, decode}
+use Rattle.pages.specs.CodeLaws.{page-codes}
+use Rattle.pages.specs.DecodeLaws.{page-decoded}
+use Rattle.calendar.specs.File.{Appointment, Day, zeros, units, appointmentBytes, appointmentsBytes, blocks, table, headBytes, firstUnit, fileOf}
+use Rattle.calendar.specs.declared.types.CalendarSettings.{CalendarSettings}
+use Rattle.export.specs.Export.{appointmentOf, appointmentsFor, daysWith, showsUnder}
+use Rattle.export.specs.RecordLaws.{GoodBook}
+use Rattle.export.specs.SizeLaws.{length-appointment, length-table}
+use Rattle.export.specs.SpanLaws.{days-few}
+use Rattle.spans.specs.Codes.{Spanned, Days}
+use Rattle.exporting.specs.Sums.{bytesIn, Sums, sumTable, rows, unitsTo, noneYet}
+use Rattle.exporting.specs.Scatter.{Added, Roomy, scatter}
+use Rattle.exporting.specs.Passes.{Counted, Sound, marked, keptIn, Weighed, soFar}
+use Rattle.exporting.specs.RowLaws.{length-more, Fits, length-rows, fits-none}
+use Rattle.exporting.specs.FillLaws.{Filled, fill-one, filled-long, fill-room, filled-same}
+use Rattle.exporting.specs.BookLaws.{Whole, whole, weighed-sum}
+use Rattle.exporting.specs.StepLaws.{so-none, so-more, so-all, so-fits}
+use Rattle.exporting.specs.SumLaws.{sums-at, table-sums, rows-sums}
+use Rattle.exporting.specs.Pieces.{file-pieces}
+
+pub record Ready (f : List ℕ) (c : ShortMonth) (first : ℕ) (days sums codes : List ℕ) : Type 0 where
+  pub records : ℕ
+  pub counted : Counted f records
+  pub good : GoodBook f
+  pub span : Spanned first days
+  pub weighed : Weighed f c days sums
+  pub kept : codes ≡ map code (pageOf (keptIn c days) f)
+
+-- the same before the records are ordered
+pub record Gathered (f : List ℕ) (c : ShortMonth) (first : ℕ) (days sums codes : List ℕ) : Type 0 where
+  pub records : ℕ
+  pub counted : Counted f records
+  pub good : GoodBook f
+  pub span : Spanned first days
+  pub weighed : Weighed f c days sums
+  pub kept : codes ≡ map code (keep (keptIn c days) (numbered f))
+
+pub ordered : {f : List ℕ} {c : ShortMonth} {first : ℕ} {days sums codes codes′ : List ℕ} → Gathered f c first days sums codes → codes′ ≡ sort high codes → Ready f c first days sums codes′
+ordered {f} {c} {first} {days} g e =
+    record {
+      records = g .records;
+      counted = g .counted;
+      good = g .good;
+      span = g .span;
+      weighed = g .weighed;
+      kept = e ∙ ap (sort high) (g .kept) ∙ sym (page-codes (keptIn c days) f);
+    }
+
+-- the zeros behind n descriptors, from the file's start on
+zeros-size : (n unit : ℕ) → unit ≡ firstUnit n → 64 * units (12 * n) - 12 * n ≡ 64 * unit - (64 + 12 * n)
+zeros-size n unit e = omega arith
+
+-- what an element becomes is a member of what the list becomes
+mem-map : {A B : Type 0} (g : A → B) (xs : List A) (n : ℕ) (d : A) → n < length xs → List·Memᴰ (g (getD xs n d)) (map g xs)
+mem-map g [] n d h = absurd (omega arith)
+mem-map g (x ∷ xs) zero d h = List·Memᴰ·head refl
+mem-map g (x ∷ xs) (suc n) d h = List·Memᴰ·tail (mem-map g xs n d (omega arith))
+
+place-at : (f : List ℕ) (at : ℕ) → entryAt f at .place ≡ at
+unfolding entryAt
+place-at f at = refl
+
+decode-place : (f : List ℕ) (v : ℕ) → decode f v .entry .place ≡ v % 65536
+unfolding decode
+decode-place f v = place-at f (v % 65536)
+
+module _ {f : List ℕ} {c : ShortMonth} {first : ℕ} {days sums codes : List ℕ} (r : Ready f c first days sums codes) where
+  pub ready-days : Days days
+  ready-days = record { first = first; spanned = r .span }
+
+  -- the record of a code
+  page-member : (p : Numbered → Bool) {x : Numbered} → List·Memᴰ x (pageOf p f) → List·Memᴰ x (numbered f)
+  unfolding pageOf
+  page-member p m = keep-member p (sort-member startOf m) .0
+
+  pub ready-sound : (n : ℕ) → n < length codes → Sound f (getD codes n 0 % 65536)
+  ready-sound n l =
+      let b = r .counted in
+      let xs : map (decode f) codes ≡ pageOf (keptIn c days) f = ap (map (decode f)) (r .kept) ∙ page-decoded f (b .long) (b .size) (keptIn c days) in
+      let x : Numbered = decode f (getD codes n 0) in
+      let m : List·Memᴰ x (pageOf (keptIn c days) f) = rw xs at (mem-map (decode f) codes n 0 l) in
+      let w : Whole b x = whole b (page-member (keptIn c days) m) in
+      let e : w .at ≡ getD codes n 0 % 65536 = sym (place-at f (w .at)) ∙ ap (λ (y : Entry). y .place) (sym (w .entry)) ∙ decode-place f (getD codes n 0) in
+      rw e at (w .sound)
+
+  module _ (interval : ℕ) where
+    abbrev so : ℕ → ℕ → List Appointment
+    so n = soFar f interval c days codes n
+
+    fits : (n : ℕ) → Fits (so n) 0 sums
+    fits n = so-fits f interval c days codes (r .counted) (r .kept) (r .good) (r .span) (r .weighed) n
+
+    -- how long the blocks are
+    pub ready-long : (n : ℕ) → length (rows (soFar f interval c days codes n) first 0 sums) ≡ 64 * unitsTo (length sums) sums
+    ready-long n = length-rows (so n) first 0 sums (fits n)
+
+    pub blank-long : length (rows noneYet first 0 sums) ≡ 64 * unitsTo (length sums) sums
+    blank-long = length-rows noneYet first 0 sums (fits-none 0 sums)
+
+    module _ {o : List ℕ} {at : ℕ} (inside : at + 64 * unitsTo (length sums) sums ≤ length o) where
+      -- before the first record
+      pub ready-start : {places out : List ℕ} → Filled o at first sums noneYet places out → Filled o at first sums (soFar f interval c days codes 0) places out
+      ready-start g = filled-same (so 0) (λ i l. sym (so-none f interval c days codes i)) g
+
+      module _ {n : ℕ} {places out : List ℕ} (l : n < length codes) (g : Filled o at first sums (soFar f interval c days codes n) places out) where
+        abbrev x : Numbered
+        x = decode f (getD codes n 0)
+
+        abbrev a : Appointment
+        a = appointmentOf f interval x
+
+        -- its appointment has room
+        pub ready-room : Roomy (λ k. marked c days k (decode f (getD codes n 0))) (length days) (length (appointmentBytes (appointmentOf f interval (decode f (getD codes n 0))))) places (length out)
+        ready-room =
+            record {
+              each =
+                  λ k i t.
+                  let e : so (n + 1) k ≡ so n k ++ (a ∷ []) = so-more f interval c days codes n k l ∙ is-true t _ _ in
+                  let q : k < length sums = omega (arith, r .weighed .long) in
+                  let m = rw (zero-add k) at (fits (n + 1) .each k q) in
+                  fill-room inside g (length (appointmentBytes a)) (fits n) q (omega (arith, length-appointment a)) (omega (arith, m, length-more (so n k) a, ap (λ (al : List Appointment). length (appointmentsBytes al)) e));
+            }
+
+        -- and then the next one's turn
+        pub ready-next :
+            {places′ out′ : List ℕ}
+            → Added (λ k. marked c days k (decode f (getD codes n 0))) (length (appointmentBytes (appointmentOf f interval (decode f (getD codes n 0))))) (length days) places places′
+            → out′ ≡ scatter (length days) (λ k. marked c days k (decode f (getD codes n 0))) (appointmentBytes (appointmentOf f interval (decode f (getD codes n 0)))) places 0 out
+            → Filled o at first sums (soFar f interval c days codes (n + 1)) places′ out′
+        ready-next {places′} {out′} added e =
+            let q = r .weighed .long in
+            rw (e, ← q) (fill-one inside g (λ k. marked c days k x) a (so (n + 1)) (fits n) (fits (n + 1)) (λ i h. so-more f interval c days codes n i l) (rw q added))
+
+      pub ready-whole : (n : ℕ) {places out : List ℕ} → Filled o at first sums (soFar f interval c days codes n) places out → length out ≡ length o
+      ready-whole n g = filled-long inside g (fits n)
+
+    -- the sums are those of the export's days
+    pub ready-sums : Sums (appointmentsFor (showsUnder c) f interval) first sums
+    ready-sums = sums-at _ first sums (λ k l. weighed-sum (r .counted) (r .good) (r .span) c interval (r .weighed) k (omega (arith, r .weighed .long)))
+
+    pub ready-all : (k : ℕ) → k < length days → soFar f interval c days codes (length codes) k ≡ appointmentsFor (showsUnder c) f interval (first + k)
+    ready-all k l = so-all f interval c days codes (r .counted) (r .kept) (r .good) (r .span) k l
+
+  -- the file, piece by piece
+  module _ (s : CalendarSettings) where
+    abbrev ds : List Day
+    ds = daysWith (appointmentsFor (showsUnder c) f (s .interval)) (length days) first
+
+    sums-days : daysWith (appointmentsFor (showsUnder c) f (s .interval)) (length sums) first ≡ ds
+    sums-days = ap (λ (n : ℕ). daysWith (appointmentsFor (showsUnder c) f (s .interval)) n first) (r .weighed .long)
+
+    pub ready-few : length (daysWith (appointmentsFor (showsUnder c) f (s .interval)) (length days) first) ≤ length days
+    ready-few = days-few (appointmentsFor (showsUnder c) f (s .interval)) (length days) first
+
+    table-of : (unit : ℕ) → sumTable first unit sums ≡ table unit ds
+    table-of unit = table-sums _ first unit sums (ready-sums (s .interval)) ∙ ap (table unit) sums-days
+
+    pub ready-table : (unit : ℕ) → length (sumTable first unit sums) ≡ 12 * length (daysWith (appointmentsFor (showsUnder c) f (s .interval)) (length days) first)
+    ready-table unit = ap length (table-of unit) ∙ length-table unit ds
+
+    blocks-of : rows (soFar f (s .interval) c days codes (length codes)) first 0 sums ≡ blocks ds
+    blocks-of =
+        rows-sums _ (soFar f (s .interval) c days codes (length codes)) first 0 sums (ready-sums (s .interval))
+        (λ i l. rw (zero-add i) (ready-all (s .interval) i (omega (arith, r .weighed .long))))
+        ∙ ap blocks sums-days
+
+    pub ready-file :
+        {n unit : ℕ} → n ≡ length (daysWith (appointmentsFor (showsUnder c) f (s .interval)) (length days) first) → unit ≡ firstUnit n
+        → fileOf s (daysWith (appointmentsFor (showsUnder c) f (s .interval)) (length days) first) ≡ headBytes s n ++ (sumTable first unit sums ++ (zeros (64 * unit - (64 + 12 * n)) ++ rows (soFar f (s .interval) c days codes (length codes)) first 0 sums))
+    ready-file {n} {unit} e u =
+        let z : 64 * units (12 * length ds) - 12 * length ds ≡ 64 * unit - (64 + 12 * n) = rw (← e) (zeros-size n unit u) in
+        file-pieces s ds ∙ rw (z, ← e, ← u, table-of unit, blocks-of)

@@ -1,0 +1,24 @@
+-- `day_shows` meets its contract: each return by the test before it.
+-- Assumes nothing.
+use Rattle.spans.specs.Rules.{dayShows}
+use Rattle.prelude.specs.Choice.{picks}
+use borrow.Author.Needs.{needs}
+use Rattle.spans.proofs.asking.day_shows.Statement.{statement}
+use Rattle.spans.proofs.asking.day_shows.Tie as tie
+
+missing-shows-requires : tie.Need-missing-shows-requires
+missing-shows-requires c κs = search needs
+
+returns : tie.Need-returns
+unfolding dayShows
+returns c = search picks depth 25 fits 3000
+
+is-same-requires : tie.Need-is-same-requires
+is-same-requires c κs = search needs
+
+returns-2 : tie.Need-returns-2
+unfolding dayShows
+returns-2 c = search picks depth 25 fits 3000
+
+pub day-shows-spec : {M : Type 1} → statement M
+day-shows-spec = tie.close (tie.spec missing-shows-requires returns is-same-requires returns-2)

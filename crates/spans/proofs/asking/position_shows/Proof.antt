@@ -1,0 +1,21 @@
+-- `position_shows` meets its contract: each return by the tests before it.
+-- Assumes nothing.
+use Rattle.prelude.specs.Choice.{picks}
+use borrow.Author.Needs.{needs}
+use Rattle.spans.proofs.asking.position_shows.Statement.{statement}
+use Rattle.spans.proofs.asking.position_shows.Tie as tie
+
+add-is-same : tie.Need-add-is-same
+add-is-same c = search needs
+
+is-same-requires : tie.Need-is-same-requires
+is-same-requires c κs = search needs
+
+returns : tie.Need-returns
+returns c = search picks depth 25 fits 3000
+
+returns-2 : tie.Need-returns-2
+returns-2 c = search picks depth 25 fits 3000
+
+pub position-shows-spec : {M : Type 1} → statement M
+position-shows-spec = tie.close (tie.spec add-is-same is-same-requires returns returns-2)

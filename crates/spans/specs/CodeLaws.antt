@@ -1,0 +1,72 @@
+-- Laws of codes: what a day's code holds, and that dates in order have codes in order.
+-- Assumes nothing.
+use Prim.Native.Nat.{ℕ, _/_, _%_, _<_, _≤_}
+use mathlib.Core.Path.{_≡_, refl, sym, _∙_}
+use mathlib.Core.Bool.{Bool, true, false}
+use native.Mathlib.Omega.{arith}
+use Rattle.prelude.specs.Choice.{ifLt, ifB, is-lt, is-ge, is-true, is-false, lt-elim}
+use Rattle.days.specs.Dates.{monthLength, before}
+use Rattle.days.specs.Days.{lastDay, dateOf, weekdayOf}
+use Rattle.days.specs.Facts.{factsOf}
+use Rattle.days.specs.DateLaws.{Valid, length-bounds}
+use Rattle.days.specs.DayLaws.{valid-date, weekday-formula}
+use Rattle.days.specs.declared.types.Date.{Date}
+use Rattle.days.specs.declared.types.DayFacts.{DayFacts}
+use Rattle.spans.specs.Codes.{dateCode, dayCode, dateIn, monthIn, dayIn, weekdayIn, lengthIn}
+
+-- a date whose numbers have room in its code
+pub record Fits (d : Date) : Type 0 where
+  pub month : d .month < 16
+  pub day : d .day < 32
+
+pub valid-fits : {d : Date} → Valid d → Fits d
+valid-fits {d} v = let m = length-bounds (d .year) (d .month) (v .january) (v .december) in omega arith
+
+-- a code's three numbers
+pub record Parts (d : Date) (q : ℕ) : Type 0 where
+  pub year : q / 512 ≡ d .year
+  pub month : q / 32 % 16 ≡ d .month
+  pub day : q % 32 ≡ d .day
+
+pub parts : {d : Date} → Fits d → Parts d (dateCode d)
+parts {d} v = omega arith
+
+-- the same of a day's facts
+pub record Known (f : DayFacts) : Type 0 where
+  pub year : f .date .year ≤ 2099
+  pub date : Fits (f .date)
+  pub first : 1 ≤ f .date .day
+  pub weekday : f .weekday < 8
+  pub length : f .length < 32
+
+pub facts-known : (n : ℕ) → n ≤ lastDay → Known (factsOf n)
+unfolding factsOf
+facts-known n h =
+    let v : Valid (dateOf n) = valid-date n h in
+    let m = length-bounds (dateOf n .year) (dateOf n .month) (v .january) (v .december) in
+    let w = weekday-formula n in
+    record { year = v .upto; date = valid-fits v; first = v .first; weekday = omega arith; length = omega arith }
+
+-- what a code holds
+pub record Held (f : DayFacts) (p : ℕ) : Type 0 where
+  pub date : dateIn p ≡ dateCode (f .date)
+  pub month : monthIn p ≡ f .date .month
+  pub day : dayIn p ≡ f .date .day
+  pub weekday : weekdayIn p ≡ f .weekday
+  pub length : lengthIn p ≡ f .length
+
+pub held : {f : DayFacts} → Known f → Held f (dayCode f)
+held {f} k = let d = k .date in omega arith
+
+-- the order of dates is that of their codes
+pub before-code : {a b : Date} → Fits a → Fits b → {X : Type 0} (x y : X) → ifB (before a b) x y ≡ ifLt (dateCode a) (dateCode b) x y
+unfolding before
+before-code {a} {b} fa fb {X} x y =
+    lt-elim P (a .year) (b .year) _ _ (λ h. is-true refl x y ∙ sym (is-lt (omega arith) x y))
+    (λ h. lt-elim P (b .year) (a .year) _ _ (λ i. is-false refl x y ∙ sym (is-ge (omega arith) x y))
+    (λ i. lt-elim P (a .month) (b .month) _ _ (λ j. is-true refl x y ∙ sym (is-lt (omega arith) x y))
+    (λ j. lt-elim P (b .month) (a .month) _ _ (λ k. is-false refl x y ∙ sym (is-ge (omega arith) x y))
+    (λ k. lt-elim P (a .day) (b .day) _ _ (λ l. is-true refl x y ∙ sym (is-lt (omega arith) x y)) (λ l. is-false refl x y ∙ sym (is-ge (omega arith) x y))))))
+  where
+    P : Bool → Type 0
+    P z = ifB z x y ≡ ifLt (dateCode a) (dateCode b) x y

@@ -1,0 +1,8 @@
+-- Days and rules as numbers, and the next day of a span on which a rule shows.
+pub mod Codes
+pub mod Rules
+pub mod Next
+pub mod CodeLaws
+pub mod MonthLaws
+pub mod RuleLaws
+pub mod WaitLaws

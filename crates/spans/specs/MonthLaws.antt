@@ -1,0 +1,82 @@
+-- The days after a day: within its month only the day of the month grows, and codes of dates rise.
+-- Assumes nothing.
+use Prim.Native.Nat.{ℕ, zero, suc, _+_, _%_, _<_, _≤_}
+use mathlib.Core.Path.{_≡_, refl, sym, _∙_, ap}
+use native.Mathlib.Omega.{arith}
+use native.Mathlib.Nat.{add-zero, add-suc}
+use Rattle.prelude.specs.Choice.{is-lt, lt-elim}
+use Rattle.days.specs.Dates.{monthLength}
+use Rattle.days.specs.Days.{lastDay, dateOf, nextDate}
+use Rattle.days.specs.Facts.{factsOf}
+use Rattle.days.specs.DateLaws.{Valid, length-bounds}
+use Rattle.days.specs.DayLaws.{valid-date, weekday-formula}
+use Rattle.days.specs.declared.types.Date.{Date}
+use Rattle.days.specs.declared.types.DayFacts.{DayFacts}
+use Rattle.spans.specs.Codes.{dateCode}
+
+-- i days later in the same month
+abbrev pub later : ℕ → Date → Date
+later i d = record { year = d .year; month = d .month; day = d .day + i }
+
+next-later : (d : Date) (i : ℕ) → d .day + i < monthLength (d .year) (d .month) → nextDate (later i d) ≡ later (suc i) d
+unfolding nextDate
+next-later d i h = is-lt h _ _ ∙ let e : d .day + i + 1 ≡ d .day + suc i = omega arith in rw e
+
+date-suc : (n : ℕ) → dateOf (suc n) ≡ nextDate (dateOf n)
+unfolding dateOf
+date-suc n = refl
+
+same : (d : Date) → d ≡ later 0 d
+same d = let e : d .day ≡ d .day + 0 = omega arith in λ i. record { year = d .year; month = d .month; day = e i }
+
+date-later : (n i : ℕ) → dateOf n .day + i ≤ monthLength (dateOf n .year) (dateOf n .month) → dateOf (n + i) ≡ later i (dateOf n)
+date-later n zero h = rw (add-zero n) (same (dateOf n))
+date-later n (suc i) h = rw (add-suc n i, date-suc (n + i), date-later n i (omega arith)) (next-later (dateOf n) i (omega arith))
+
+-- the facts of a day i days later
+pub record Later (f g : DayFacts) (i : ℕ) : Type 0 where
+  pub year : g .date .year ≡ f .date .year
+  pub month : g .date .month ≡ f .date .month
+  pub day : g .date .day ≡ f .date .day + i
+  pub length : g .length ≡ f .length
+
+pub in-month : (n i : ℕ) → factsOf n .date .day + i ≤ factsOf n .length → Later (factsOf n) (factsOf (n + i)) i
+unfolding factsOf
+in-month n i h =
+    let e : dateOf (n + i) ≡ later i (dateOf n) = date-later n i h in
+    record {
+      year = ap (λ (d : Date). d .year) e;
+      month = ap (λ (d : Date). d .month) e;
+      day = ap (λ (d : Date). d .day) e;
+      length = ap (λ (d : Date). monthLength (d .year) (d .month)) e;
+    }
+
+-- a day lies in its month
+pub in-length : (n : ℕ) → n ≤ lastDay → factsOf n .date .day ≤ factsOf n .length
+unfolding factsOf
+in-length n h = valid-date n h .last
+
+-- codes rise
+next-rises : (d : Date) → Valid d → dateCode d < dateCode (nextDate d)
+unfolding nextDate
+next-rises d v =
+    let m = length-bounds (d .year) (d .month) (v .january) (v .december) in
+    lt-elim P (d .day) (monthLength (d .year) (d .month)) _ _ (λ h. omega arith) (λ h. lt-elim P (d .month) 12 _ _ (λ i. omega arith) (λ i. omega arith))
+  where
+    P : Date → Type 0
+    P e = dateCode d < dateCode e
+
+codes-rise : (n i : ℕ) → n + i ≤ lastDay → dateCode (dateOf n) ≤ dateCode (dateOf (n + i))
+codes-rise n zero h = rw (add-zero n) (omega arith)
+codes-rise n (suc i) h =
+    rw (add-suc n i, date-suc (n + i))
+    (omega (arith, codes-rise n i (omega arith), next-rises (dateOf (n + i)) (valid-date (n + i) (omega arith))))
+
+pub later-code : (n i : ℕ) → n + i ≤ lastDay → dateCode (factsOf n .date) ≤ dateCode (factsOf (n + i) .date)
+unfolding factsOf
+later-code n i h = codes-rise n i h
+
+-- the weekday i days later
+pub weekday-later : (n i : ℕ) → factsOf (n + i) .weekday ≡ (factsOf n .weekday + 6 + i) % 7 + 1
+unfolding factsOf
+weekday-later n i = let a = weekday-formula n in let b = weekday-formula (n + i) in omega arith
