@@ -445,6 +445,29 @@ apptbook_count_answer apptbook_calendar_appointments(const uint8_t *file, size_t
 apptbook_appointment_answer apptbook_calendar_appointment(const uint8_t *file, size_t len, uint16_t day,
                                                           size_t appointment);
 
+/*
+ * The export.
+ *
+ * Writes count days of a book, from Calendar day `first` on, as a Calendar file to the start of the lent buffer;
+ * count of the answer is the number of bytes written. The file has a descriptor for each day on which a record
+ * falls, rising, and that day's block lists start minute, alarm and text of just the lines of its page, in the
+ * page's order. So what the Calendar calls show of the file on a day of the span is what the page calls show
+ * of the book, and on any other day it is nothing. End minutes, lead times, notes and to-dos are dropped.
+ *
+ * Early ring, sound and start minute are the book's lead time, alarm and display start; the interval is the
+ * granularity where that is 15, 30 or 60 minutes, and else 30. An appointment has APPTBOOK_FLAG_SPECIAL_TIME
+ * just when its minute is no multiple of the interval.
+ *
+ * The whole book is judged first (1 to 9). Then come, each with place 0 and in this order:
+ * APPTBOOK_OUT_OF_RANGE (11) for a first day over 43,829, a count over 366, or first + count over 43,830;
+ * APPTBOOK_TOO_MANY_BLOCKS (13) where a block would start at byte 64 x 32,768 or later;
+ * APPTBOOK_NO_ROOM (12) where the buffer is shorter than the file. 2,228,224 bytes of buffer are always enough.
+ * On a refusal no byte of the buffer is changed; otherwise only the bytes that are written are changed.
+ * The buffer may not lie in the file.
+ */
+apptbook_count_answer apptbook_export(const uint8_t *file, size_t len, uint16_t first, uint16_t count,
+                                      bool last, uint8_t *buffer, size_t buffer_len);
+
 #ifdef __cplusplus
 }
 #endif

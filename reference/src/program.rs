@@ -7,23 +7,16 @@ use crate::pages::ShortMonth;
 use crate::printed::printed_page;
 use crate::refusal::{Refusal, OUT_OF_RANGE};
 
-/// Whether the proved program exports; until then two numbers are answered as anything else is.
-pub const EXPORT_LANDED: bool = false;
-
 /// For a Calendar file.
 pub const ROOM: usize = 65_536;
 
 /// What it writes to standard output. `words`: the command line without the program's name.
 pub fn output(words: &[Vec<u8>], input: &[u8]) -> Vec<u8> {
-    output_of(words, input, EXPORT_LANDED)
-}
-
-pub fn output_of(words: &[Vec<u8>], input: &[u8], exports: bool) -> Vec<u8> {
-    answer(words, input, exports)
+    answer(words, input)
         .unwrap_or_else(|Refusal { number, place }| format!("{number} {place}\n").into_bytes())
 }
 
-fn answer(words: &[Vec<u8>], input: &[u8], exports: bool) -> Result<Vec<u8>, Refusal> {
+fn answer(words: &[Vec<u8>], input: &[u8]) -> Result<Vec<u8>, Refusal> {
     book::read_book(input)?;
     let (numbers, choice) = match words.split_last() {
         Some((word, others)) if word == b"skip" => (others, ShortMonth::Skip),
@@ -32,7 +25,7 @@ fn answer(words: &[Vec<u8>], input: &[u8], exports: bool) -> Result<Vec<u8>, Ref
     };
     match numbers {
         [day] => printed_page(input, number(day)?, choice),
-        [first, count] if exports => {
+        [first, count] => {
             let mut file = vec![0; ROOM];
             let length = export(input, number(first)?, number(count)?, choice, &mut file)?;
             file.truncate(length);

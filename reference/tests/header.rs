@@ -224,7 +224,6 @@ calendar_appointment 11 0 text 0 0 minute 0 flags 0\u{20}
     }
 }
 
-#[cfg(feature = "export")]
 mod export {
     use super::{in_c99, in_cpp};
 

@@ -2,7 +2,7 @@
 
 use reference::books::crowded;
 use reference::pages::ShortMonth;
-use reference::program::{output, output_of};
+use reference::program::output;
 use reference::vectors::calendars::{empty, whole_case};
 use reference::vectors::commands::{CUT_BOOKS, PAGES, REFUSALS};
 use reference::vectors::commands::{EMPTY_EXPORTS, EXPORTS, EXPORT_REFUSALS};
@@ -20,17 +20,15 @@ fn commands_by_hand() {
     }
 }
 
-/// Refused as a whole until the export lands.
 #[test]
 fn exports_by_hand() {
     for (commands, expected) in
         [(EXPORTS, whole_case()), (EMPTY_EXPORTS, empty()), (EXPORT_REFUSALS, b"11 0\n".to_vec())]
     {
         for command in commands {
-            assert_eq!(output_of(&words(command), &WHOLE_CASE, true), expected, "{command:?}");
-            assert_eq!(output_of(&words(command), &WHOLE_CASE, false), b"11 0\n", "{command:?}");
+            assert_eq!(output(&words(command), &WHOLE_CASE), expected, "{command:?}");
             for &(length, refusal) in CUT_BOOKS {
-                assert_eq!(output_of(&words(command), &WHOLE_CASE[..length], true), refusal, "{command:?}");
+                assert_eq!(output(&words(command), &WHOLE_CASE[..length]), refusal, "{command:?}");
             }
         }
     }
@@ -41,7 +39,7 @@ fn exports_by_hand() {
 fn the_longest_exports() {
     let written = |(mondays, others), count| {
         let command = words(&[b"4822", count]);
-        output_of(&command, &crowded(mondays, others).bytes, true)
+        output(&command, &crowded(mondays, others).bytes)
     };
     assert_eq!(written((1_021, 0), b"8").len(), 65_536);
     assert_eq!(written((1_021, 1), b"8"), b"12 0\n");

@@ -5,3 +5,4 @@ pub mod RecordAnswers
 pub mod WriterCalls
 pub mod PageCalls
 pub mod CalendarCalls
+pub mod ExportCalls

@@ -2,6 +2,7 @@
 pub mod book_calls;
 pub mod calendar_calls;
 pub mod days_calls;
+pub mod export_calls;
 pub mod page_calls;
 pub mod record_answers;
 pub mod writer_calls;

@@ -46,7 +46,7 @@ pub struct OccurrenceOut {
     pub found: bool,
 }
 
-fn choice_of(last: bool) -> ShortMonth
+pub fn choice_of(last: bool) -> ShortMonth
     ensures { λ r. ⌜ r ≡ choiceOf last ⌝ }
 {
     if last {

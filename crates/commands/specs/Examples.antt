@@ -9,9 +9,11 @@ use Rattle.falls.specs.declared.types.ShortMonth.{ShortMonth}
 use Rattle.digits.specs.Digits.{decimalF, decimal, valueFrom, value, allDigits, isNumber, capped}
 use Rattle.pages.specs.Answers.{askedOf, asked}
 use Rattle.printing.specs.Examples.{caseHead, caseLine, case-page}
+use Rattle.calendar.specs.Examples as calendar
+use Rattle.export.specs.Examples.{case-file, case-answers}
 use Rattle.commands.specs.Words.{spelled, wordOf}
 use Rattle.commands.specs.Commands.{withNumber, withChoice, oneWord, afterDay, twoWords, threeWords, commandOf}
-use Rattle.commands.specs.Responses.{refusalText, pageResponse, response}
+use Rattle.commands.specs.Responses.{refusalText, pageResponse, exportText, exportResponse, response}
 use Rattle.commands.specs.declared.types.Word.{Word}
 use Rattle.commands.specs.declared.types.Command.{Command}
 
@@ -42,3 +44,8 @@ refused = refl
 pub case-answer : response case (Command.Page 4822 ShortMonth.Skip) 65536 ≡ caseHead ++ caseLine
 unfolding response pageResponse asked askedOf ifLt
 case-answer = rw (case-accepted, case-page)
+
+-- its export, 192 bytes
+pub case-exported : response case (Command.Export 4820 7 ShortMonth.Skip) 65536 ≡ calendar.case
+unfolding response exportResponse exportText
+case-exported = rw (case-answers .2, case-file)

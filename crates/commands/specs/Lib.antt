@@ -2,6 +2,6 @@
 pub mod Words
 pub mod Commands
 pub mod Responses
-pub mod WordLaws
 pub mod ResponseLaws
+pub mod WordLaws
 pub mod Examples

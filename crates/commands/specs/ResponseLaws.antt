@@ -1,11 +1,13 @@
--- Laws of the answers: the book's refusals come first, and with the program's room a page is never refused with 12.
+-- Laws of the answers: the book's refusals come first, and with the program's room a page is never refused with 12. What the answers
+-- of the printed page and of the export say of the bytes that the program writes.
 -- Assumes nothing.
 use Prim.Native.Nat.{ℕ, _^_, _<_, _≤_}
 use mathlib.Core.Path.{_≡_, refl, sym, _∙_, ap}
+use mathlib.Core.Bool.{false}
 use mathlib.Core.List.{List}
 use native.Mathlib.Omega.{arith}
 use lib.ListN.{length, length-append}
-use Rattle.prelude.specs.Choice.{is-lt, is-ge, lt-skip, lt-take}
+use Rattle.prelude.specs.Choice.{is-lt, is-ge, is-false, lt-skip, lt-take}
 use Rattle.prelude.specs.Splice.{splice}
 use Rattle.prelude.specs.declared.refusals.Refusal.{Refusal}
 use Rattle.days.specs.Days.{lastDay}
@@ -21,7 +23,10 @@ use Rattle.pages.specs.declared.types.CountAnswer.{CountAnswer}
 use Rattle.printing.specs.Printed.{pageText}
 use Rattle.printing.specs.Answers.{printIn, printLeaves}
 use Rattle.printing.specs.SizeLaws.{page-most}
-use Rattle.commands.specs.Responses.{refusalText, pageResponse, otherResponse, response}
+use Rattle.export.specs.Export.{spanOk, exportFile, exportFrom, exportAnswer, exportLeaves, showsUnder}
+use Rattle.export.specs.AnswerLaws.{success, left-refused, left-written}
+use Rattle.export.specs.declared.types.ExportAnswer.{ExportAnswer}
+use Rattle.commands.specs.Responses.{refusalText, pageResponse, exportText, exportResponse, otherResponse, response}
 use Rattle.commands.specs.declared.types.Command.{Command}
 
 -- the room that any refusal of the machine's numbers needs
@@ -38,7 +43,7 @@ unfolding askedOf
 refused-of n q = rw q
 
 pub book-first : (f : List ℕ) (command : Command) (room : ℕ) {e : Refusal} → bookOf f ≡ BookAnswer.Refused e → response f command room ≡ refusalText e
-unfolding response pageResponse otherResponse asked
+unfolding response pageResponse otherResponse asked exportResponse exportText exportAnswer exportFrom
 book-first f (Command.Page d c) room q = rw (refused-of d q)
 book-first f (Command.Export d n c) room q = rw q
 book-first f Command.Unknown room q = rw q
@@ -52,6 +57,16 @@ beyond-of f c room d (BookAnswer.Refused e) h = refl
 pub page-beyond : (f : List ℕ) (c : ShortMonth) (room d : ℕ) → lastDay < d → pageResponse f c room (asked f (record { 0 = d })) ≡ otherResponse (bookOf f)
 unfolding asked
 page-beyond f c room d h = beyond-of f c room d (bookOf f) h
+
+-- a span out of range
+beyond-span-of : (f : List ℕ) (c : ShortMonth) (room first count : ℕ) (b : BookAnswer) → spanOk first count ≡ false → exportText (exportFile (showsUnder c) f first count) (exportFrom (showsUnder c) f first count room b) ≡ otherResponse b
+unfolding exportText exportFrom otherResponse
+beyond-span-of f c room first count (BookAnswer.Accepted b) h = ap (exportText _) (is-false h _ _)
+beyond-span-of f c room first count (BookAnswer.Refused e) h = refl
+
+pub export-beyond : (f : List ℕ) (c : ShortMonth) (room first count : ℕ) → spanOk first count ≡ false → exportResponse f c room first count ≡ otherResponse (bookOf f)
+unfolding exportResponse exportAnswer
+export-beyond f c room first count h = beyond-span-of f c room first count (bookOf f) h
 
 -- 12 never happens with 65,535 bytes of room
 pub page-whole : (f : List ℕ) (d : ℕ) (c : ShortMonth) (room : ℕ) {a : Ready} → asked f (record { 0 = d }) ≡ Asked.Ready a → 65535 ≤ room → response f (Command.Page d c) room ≡ pageText f c (a .facts)
@@ -101,3 +116,26 @@ print-refused f c out (Asked.Ready a) e =
     let p = lt-take (length out) (length (pageText f c (a .facts))) _ _ refused-not e in
     record { text = is-lt (p .0) _ _ ∙ ap refusalText (refused-inj (p .1)); left = is-lt (p .0) _ _ }
 print-refused f c out (Asked.Refused r) e = record { text = ap refusalText (refused-inj e); left = refl }
+
+-- the same of an export's
+module _ (f : List ℕ) (c : ShortMonth) (first count : ℕ) (out : List ℕ) where
+  pub record Exported (n : ℕ) : Type 0 where
+    pub next : n ≡ length (exportResponse f c (length out) first count)
+    pub put : exportLeaves (showsUnder c) f first count out ≡ splice out 0 (exportResponse f c (length out) first count)
+    pub within : n ≤ length out
+
+  pub export-written : {n : ℕ} → exportAnswer (showsUnder c) f first count (length out) ≡ ExportAnswer.Written n → Exported n
+  unfolding exportResponse exportText
+  export-written {n} e =
+      let s = success (showsUnder c) f first count (length out) n e in
+      let t = ap (exportText (exportFile (showsUnder c) f first count)) e in
+      record {
+        next = sym (s .long) ∙ ap length (sym t);
+        put = left-written (showsUnder c) f first count out n e ∙ ap (splice out 0) (sym t);
+        within = s .enough;
+      }
+
+  pub export-refused : {e : Refusal} → exportAnswer (showsUnder c) f first count (length out) ≡ ExportAnswer.Refused e → (exportResponse f c (length out) first count ≡ refusalText e) × (exportLeaves (showsUnder c) f first count out ≡ out)
+  unfolding exportResponse exportText
+  export-refused e =
+      (ap (exportText (exportFile (showsUnder c) f first count)) e, left-refused (showsUnder c) f first count out e)

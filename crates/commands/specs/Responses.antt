@@ -1,4 +1,4 @@
--- What the program writes, document 01 "What we read, write and show": a day page, or a refusal.
+-- What the program writes, document 01 "What we read, write and show": "a day page or a Calendar file", or a refusal.
 -- Assumes nothing.
 use Prim.Native.Nat.{ℕ}
 use mathlib.Core.List.{List, [], _∷_, _++_}
@@ -13,6 +13,8 @@ use Rattle.digits.specs.Digits.{decimal}
 use Rattle.pages.specs.Answers.{asked}
 use Rattle.pages.specs.declared.types.Asked.{Asked}
 use Rattle.printing.specs.Printed.{newline, space, pageText}
+use Rattle.export.specs.Export.{exportFile, exportAnswer, showsUnder}
+use Rattle.export.specs.declared.types.ExportAnswer.{ExportAnswer}
 use Rattle.commands.specs.declared.types.Command.{Command}
 
 -- "A refusal is printed as number, space, place, 0Ah."
@@ -25,6 +27,16 @@ pageResponse f c room (Asked.Ready a) =
     ifLt room (length (pageText f c (a .facts))) (refusalText (refusal noRoom)) (pageText f c (a .facts))
 pageResponse f c room (Asked.Refused e) = refusalText e
 
+-- a Calendar file, or what the export says instead
+unfoldable pub exportText : List ℕ → ExportAnswer → List ℕ
+exportText file (ExportAnswer.Written n) = file
+exportText file (ExportAnswer.Refused e) = refusalText e
+
+-- "a first day and a count (export)", in so many bytes of room
+unfoldable pub exportResponse : List ℕ → ShortMonth → ℕ → ℕ → ℕ → List ℕ
+exportResponse f c room first count =
+    exportText (exportFile (showsUnder c) f first count) (exportAnswer (showsUnder c) f first count room)
+
 -- "anything else is 11, after the book's own refusals"
 unfoldable pub otherResponse : BookAnswer → List ℕ
 otherResponse (BookAnswer.Accepted b) = refusalText (refusal outOfRange)
@@ -32,6 +44,5 @@ otherResponse (BookAnswer.Refused e) = refusalText e
 
 unfoldable pub response : List ℕ → Command → ℕ → List ℕ
 response f (Command.Page d c) room = pageResponse f c room (asked f (record { 0 = d }))
--- until the export lands
-response f (Command.Export d n c) room = otherResponse (bookOf f)
+response f (Command.Export d n c) room = exportResponse f c room d n
 response f Command.Unknown room = otherResponse (bookOf f)

@@ -1,8 +1,8 @@
--- Laws of words: what is spelled, and that a day is compared as it is, however long its number.
+-- Laws of words: what is spelled, and that days and counts are compared as they are, however long their numbers.
 -- Assumes nothing.
-use Prim.Native.Nat.{ℕ}
+use Prim.Native.Nat.{ℕ, _<_, _≤_}
 use mathlib.Core.Path.{_≡_, refl, sym, _∙_}
-use mathlib.Core.Bool.{true, false≢true}
+use mathlib.Core.Bool.{true, false, false≢true}
 use mathlib.Core.List.{List, [], _∷_}
 use native.Mathlib.Omega.{arith}
 use lib.ListN.{length}
@@ -13,7 +13,12 @@ use Rattle.digits.specs.NumberLaws.{capped-below, capped-above}
 use Rattle.book.specs.Books.{bookOf}
 use Rattle.book.specs.declared.types.BookAnswer.{BookAnswer}
 use Rattle.pages.specs.Answers.{askedOf, asked}
+use Rattle.days.specs.Days.{lastDay}
+use Rattle.falls.specs.declared.types.ShortMonth.{ShortMonth}
+use Rattle.export.specs.Export.{spanOk}
 use Rattle.commands.specs.Words.{spelled}
+use Rattle.commands.specs.Responses.{exportResponse}
+use Rattle.commands.specs.ResponseLaws.{export-beyond}
 
 -- four bytes are those at places 0 to 3
 four-bytes : (w : List ℕ) → length w ≡ 4 → w ≡ byte w 0 ∷ byte w 1 ∷ byte w 2 ∷ byte w 3 ∷ []
@@ -46,3 +51,25 @@ asked-capped-of (BookAnswer.Refused e) v = refl
 pub asked-capped : (f : List ℕ) (v : ℕ) → asked f (record { 0 = capped v }) ≡ asked f (record { 0 = v })
 unfolding asked
 asked-capped f v = asked-capped-of (bookOf f) v
+
+-- the same of an export's first day and count
+first-beyond : (first count : ℕ) → lastDay < first → spanOk first count ≡ false
+unfolding spanOk
+first-beyond first count h = is-lt h _ _
+
+count-beyond : (first count : ℕ) → 366 < count → spanOk first count ≡ false
+unfolding spanOk
+count-beyond first count h = lt-elim (λ b. b ≡ false) lastDay first _ _ (λ _. refl) (λ _. is-lt h _ _)
+
+module _ (f : List ℕ) (c : ShortMonth) (room v w : ℕ) where
+  both-beyond : spanOk (capped v) (capped w) ≡ false → spanOk v w ≡ false → exportResponse f c room (capped v) (capped w) ≡ exportResponse f c room v w
+  both-beyond h k = export-beyond f c room (capped v) (capped w) h ∙ sym (export-beyond f c room v w k)
+
+  pub export-capped : exportResponse f c room (capped v) (capped w) ≡ exportResponse f c room v w
+  export-capped =
+      lt-elim {X = Unit {0}} (λ _. exportResponse f c room (capped v) (capped w) ≡ exportResponse f c room v w) v 65536 tt tt
+      (λ h.
+      lt-elim {X = Unit {0}} (λ _. exportResponse f c room (capped v) (capped w) ≡ exportResponse f c room v w) w 65536 tt tt
+      (λ k. rw (capped-below h, capped-below k))
+      (λ k. both-beyond (count-beyond (capped v) (capped w) (rw (capped-above k) (omega arith))) (count-beyond v w (omega arith))))
+      (λ h. both-beyond (first-beyond (capped v) (capped w) (rw (capped-above h) (omega arith))) (first-beyond v w (omega arith)))

@@ -5,13 +5,15 @@ ghost use lib.ListN.{length};
 ghost use Rattle.prelude.specs.Splice.{splice};
 ghost use Rattle.book.specs.Books.{bookOf};
 ghost use Rattle.pages.specs.Answers.{asked};
-ghost use Rattle.commands.specs.Responses.{refusalText, pageResponse, otherResponse, response};
+ghost use Rattle.commands.specs.Responses.{refusalText, pageResponse, exportResponse, otherResponse, response};
 use crate::types::Command;
 use book::reading::read_book;
 use book::types::BookAnswer;
 use days::types::CalendarDay;
 use digits::puts::put_byte;
 use digits::puts::put_decimal;
+use export::types::ExportAnswer;
+use exporting::calls::export;
 use falls::types::ShortMonth;
 use pages::types::CountAnswer;
 use prelude::refusals::OUT_OF_RANGE;
@@ -68,6 +70,21 @@ fn page_response(file: &[u8], d: u32, c: ShortMonth, out: &mut [u8]) -> usize
     }
 }
 
+fn export_response(file: &[u8], first: u32, count: u32, c: ShortMonth, out: &mut [u8]) -> usize
+    requires { ⌜ 32 ≤ length (now out) ⌝ }
+    ensures next { λ r.
+        ⌜ r ≡ length (exportResponse (now (file .entry)) c (length (now (out .entry))) first count) ⌝ }
+    ensures put { λ _.
+        ⌜ now (out .exit) ≡ splice (now (out .entry)) 0 (exportResponse (now (file .entry)) c (length (now (out .entry))) first count) ⌝ }
+    ensures within { λ r. ⌜ r ≤ length (now (out .entry)) ⌝ }
+{
+    let a = export(file, first, count, c, out);
+    match a {
+        ExportAnswer::Written(n) => n,
+        ExportAnswer::Refused(e) => put_refusal(out, e),
+    }
+}
+
 // The bytes that the program writes for a command on a book, and how many they are.
 pub fn respond(file: &[u8], command: Command, out: &mut [u8]) -> usize
     requires { ⌜ 32 ≤ length (now out) ⌝ }
@@ -78,7 +95,7 @@ pub fn respond(file: &[u8], command: Command, out: &mut [u8]) -> usize
 {
     match command {
         Command::Page(d, c) => page_response(file, d, c, out),
-        Command::Export(_, _, _) => other_response(file, out),
+        Command::Export(first, count, c) => export_response(file, first, count, c, out),
         Command::Unknown => other_response(file, out),
     }
 }

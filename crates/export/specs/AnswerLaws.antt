@@ -98,18 +98,18 @@ module _ (shows : ℕ → Numbered → Bool) (f : List ℕ) (first count : ℕ) 
 
   -- after success it begins with the file, and the bytes past it are as before
   module _ (out : List ℕ) (n : ℕ) (h : exportAnswer shows f first count (length out) ≡ ExportAnswer.Written n) where
-    left : exportLeaves shows f first count out ≡ splice out 0 (exportFile shows f first count)
+    pub left-written : exportLeaves shows f first count out ≡ splice out 0 (exportFile shows f first count)
     unfolding exportLeaves leaves
-    left = ap (leaves (exportFile shows f first count) out) h
+    left-written = ap (leaves (exportFile shows f first count) out) h
 
     pub left-file : take n (exportLeaves shows f first count out) ≡ exportFile shows f first count
     left-file =
         let s : Success (length out) n = success (length out) n h in
         let e : n ≡ 0 + length (exportFile shows f first count) = omega arith in
-        rw (left, e) (splice-take out 0 (exportFile shows f first count) (omega arith))
+        rw (left-written, e) (splice-take out 0 (exportFile shows f first count) (omega arith))
 
     pub left-past : drop n (exportLeaves shows f first count out) ≡ drop n out
     left-past =
         let s : Success (length out) n = success (length out) n h in
         let e : n ≡ 0 + length (exportFile shows f first count) = omega arith in
-        rw (left, e) (splice-drop out 0 (exportFile shows f first count) (omega arith))
+        rw (left-written, e) (splice-drop out 0 (exportFile shows f first count) (omega arith))

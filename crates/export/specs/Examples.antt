@@ -21,8 +21,9 @@ use Rattle.book.specs.Settings.{sameBytes, identified, settingsInRange, setting
 use Rattle.book.specs.Walk.{judgeHead, judged, stepAt, walkF, walkFrom, walkOf, placesIn}
 use Rattle.book.specs.Books.{afterEndRecord, accepted, counted, bookOf, entryAt, placesOf, entriesOf}
 use Rattle.book.specs.Examples.{case}
-use Rattle.falls.specs.Falls.{defaultChoice, datedFalls, falls}
+use Rattle.falls.specs.Falls.{datedFalls, falls}
 use Rattle.falls.specs.Times.{timesOf}
+use Rattle.falls.specs.declared.types.ShortMonth.{ShortMonth}
 use Rattle.pages.specs.Pages.{Numbered, numberedFrom, numbered, pageOf}
 use Rattle.calendar.specs.File.{zeros, filled, appointmentBytes, appointmentsBytes, blockBytes, blocks, alarms, descriptorBytes, table, headBytes, fileOf}
 use Rattle.calendar.specs.Examples as calendar
@@ -30,7 +31,7 @@ use Rattle.export.specs.Export.{bit, codeOf, intervalOf, settingsFor, sp
 use Rattle.export.specs.declared.types.ExportAnswer.{ExportAnswer}
 
 abbrev shows : ℕ → Numbered → Bool
-shows = showsUnder defaultChoice
+shows = showsUnder ShortMonth.Skip
 
 -- "Export of a span with that day, 192 bytes"
 pub case-file : exportFile shows case 4820 7 ≡ calendar.case
@@ -42,10 +43,10 @@ pub empty-files : (exportFile shows case 4823 7 ≡ calendar.emptyCase) × (expo
 unfolding exportFile exportDays daysWith dayBefore appointmentsFor appointmentOf specialTime settingsFor intervalOf codeOf bit settingsOf pageOf sort insert keep numbered numberedFrom entriesOf entryAt placesOf placesIn walkOf walkFrom walkF stepAt judgeHead judged judgeBody lengthsOk lengthsFit fieldsOk textsOk datedOf recordOf fixedOf datedOk timesOk real monthLength leap noZero noteOk linesOf shortLines timesOf falls datedFalls factsOf dateOf nextDate weekdayOf nextWeekday fileOf headBytes table descriptorBytes alarms filled blocks blockBytes appointmentsBytes appointmentBytes le16 ifLt ifEq ifB
 empty-files = (refl, refl)
 
--- a room of 192 bytes is just enough
-pub case-answers : (exportAnswer shows case 4820 7 192 ≡ ExportAnswer.Written 192) × (exportAnswer shows case 4820 7 191 ≡ ExportAnswer.Refused (refusal noRoom))
+-- a room of 192 bytes is just enough; the program's
+pub case-answers : (exportAnswer shows case 4820 7 192 ≡ ExportAnswer.Written 192) × (exportAnswer shows case 4820 7 191 ≡ ExportAnswer.Refused (refusal noRoom)) × (exportAnswer shows case 4820 7 65536 ≡ ExportAnswer.Written 192)
 unfolding exportAnswer exportFrom sized tooFar farFrom spanOk bookOf counted accepted afterEndRecord identified sameBytes settingsOk settingsInRange flagsOk exportFile exportDays daysWith dayBefore appointmentsFor appointmentOf specialTime settingsFor intervalOf codeOf bit settingsOf pageOf sort insert keep numbered numberedFrom entriesOf entryAt placesOf placesIn walkOf walkFrom walkF stepAt judgeHead judged judgeBody lengthsOk lengthsFit fieldsOk textsOk datedOf recordOf fixedOf datedOk timesOk real monthLength leap noZero noteOk linesOf shortLines timesOf falls datedFalls factsOf dateOf nextDate weekdayOf nextWeekday fileOf headBytes table descriptorBytes alarms filled blocks blockBytes appointmentsBytes appointmentBytes le16 ifLt ifEq ifB
-case-answers = (refl, refl)
+case-answers = (refl, refl, refl)
 
 -- "bytes past the written length are as before"
 pub case-left : exportLeaves shows case 4820 7 (zeros 192 ++ (1 ∷ (2 ∷ []))) ≡ calendar.case ++ (1 ∷ (2 ∷ []))

@@ -2,6 +2,7 @@
 ghost use mathlib.Core.Path.{_≡_};
 ghost use Prim.Native.Nat.{_+_, _≤_};
 ghost use lib.ListN.{length};
+ghost use Rattle.prelude.specs.Refusals.{refusal};
 ghost use Rattle.days.specs.Days.{lastDay};
 ghost use Rattle.days.specs.Facts.{factsOf};
 ghost use Rattle.book.specs.Books.{bookOf};
@@ -25,6 +26,12 @@ use prelude::refusals::OUT_OF_RANGE;
 use prelude::refusals::Refusal;
 use prelude::refusals::TOO_MANY_BLOCKS;
 use spans::packing::pack_days;
+
+fn refused(number: u32) -> ExportAnswer
+    ensures { λ r. ⌜ r ≡ ExportAnswer.Refused (refusal number) ⌝ }
+{
+    ExportAnswer::Refused(Refusal { number, place: 0 })
+}
 
 // The export of the days from the first on, as many as the lent lists of days, sums and places have elements; the sums are 0.
 fn export_days(
@@ -57,16 +64,10 @@ fn export_days(
     let n = collect(file, b.records, c, days, codes, sums);
     let m = measure(sums);
     if m.far {
-        return ExportAnswer::Refused(Refusal {
-            number: TOO_MANY_BLOCKS,
-            place: 0,
-        });
+        return refused(TOO_MANY_BLOCKS);
     }
     if out.len() < m.length {
-        return ExportAnswer::Refused(Refusal {
-            number: NO_ROOM,
-            place: 0,
-        });
+        return refused(NO_ROOM);
     }
     let day = first.day.0 as usize;
     fill(
@@ -159,10 +160,7 @@ fn export_in(
             FactsAnswer::Refused(e) => ExportAnswer::Refused(e),
         }
     } else {
-        ExportAnswer::Refused(Refusal {
-            number: OUT_OF_RANGE,
-            place: 0,
-        })
+        refused(OUT_OF_RANGE)
     }
 }
 

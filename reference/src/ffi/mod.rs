@@ -20,7 +20,6 @@ macro_rules! answer_of_result {
 pub mod book;
 pub mod calendar;
 pub mod days;
-#[cfg(feature = "export")]
 pub mod export;
 pub mod pages;
 pub mod writer;

@@ -1,8 +1,6 @@
 //! The proved export against the plain one: the answer, and every byte of the buffer and around it; and each
 //! file read back by both readers and compared with the pages of both.
 
-#![cfg(feature = "export")]
-
 mod by_hand;
 mod random;
 

@@ -1,14 +1,12 @@
-//! Two numbers: an export, or refused as anything else is until that lands.
+//! Two numbers: an export.
 
 use super::{compare, run, run_slowly};
 use reference::books::{book_of_span, crowded, Span};
-use reference::program::{output, EXPORT_LANDED};
+use reference::program::output;
 use reference::rng::Rng;
 use reference::vectors::calendars::{empty, whole_case};
 use reference::vectors::commands::{CUT_BOOKS, EMPTY_EXPORTS, EXPORTS, EXPORT_REFUSALS};
 use reference::vectors::WHOLE_CASE;
-
-const REFUSED: &[u8] = b"11 0\n";
 
 fn words(words: &[&[u8]]) -> Vec<Vec<u8>> {
     words.iter().map(|word| word.to_vec()).collect()
@@ -17,11 +15,10 @@ fn words(words: &[&[u8]]) -> Vec<Vec<u8>> {
 #[test]
 fn exports_by_hand() {
     for (commands, file) in
-        [(EXPORTS, whole_case()), (EMPTY_EXPORTS, empty()), (EXPORT_REFUSALS, REFUSED.to_vec())]
+        [(EXPORTS, whole_case()), (EMPTY_EXPORTS, empty()), (EXPORT_REFUSALS, b"11 0\n".to_vec())]
     {
-        let expected = if EXPORT_LANDED { file } else { REFUSED.to_vec() };
         for command in commands {
-            assert_eq!(run(&words(command), &WHOLE_CASE), expected, "{command:?}");
+            assert_eq!(run(&words(command), &WHOLE_CASE), file, "{command:?}");
         }
     }
     for &(length, expected) in CUT_BOOKS {
@@ -58,7 +55,7 @@ fn the_longest_exports() {
         let command = words(&[b"4822", count.as_bytes()]);
         let book = crowded(mondays, others).bytes;
         let written = compare(&command, &book);
-        assert_eq!(written.len(), if EXPORT_LANDED { expected } else { REFUSED.len() });
+        assert_eq!(written.len(), expected);
         assert!(run_slowly(&command, book.chunks(999)) == output(&command, &book));
     }
 }

@@ -7,7 +7,6 @@
 mod books;
 mod calendars;
 mod days;
-#[cfg(feature = "export")]
 mod exports;
 mod pages;
 mod writings;
@@ -37,7 +36,6 @@ const GROUPS: &[fn() -> Vec<Row>] = &[
     writings::rows,
     pages::rows,
     calendars::rows,
-    #[cfg(feature = "export")]
     exports::rows,
 ];
 

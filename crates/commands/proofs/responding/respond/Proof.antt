@@ -11,17 +11,17 @@ enum-known-command c = search needs
 page-response-requires : tie.Need-page-response-requires
 page-response-requires c κs = search needs
 
+enum-known-command-2 : tie.Need-enum-known-command-2
+enum-known-command-2 c = search needs
+
+export-response-requires : tie.Need-export-response-requires
+export-response-requires c κs = search needs
+
 enum-told : tie.Need-enum-told
 enum-told c = search needs
 
 other-response-requires : tie.Need-other-response-requires
 other-response-requires c κs = search needs
-
-enum-told-2 : tie.Need-enum-told-2
-enum-told-2 c = search needs
-
-other-response-requires-2 : tie.Need-other-response-requires-2
-other-response-requires-2 c κs = search needs
 
 same-length : tie.Need-same-length
 same-length c = search needs
@@ -39,7 +39,7 @@ returns-2 : tie.Need-returns-2
 unfolding response
 returns-2 c =
     let p = c .before .before in
-    rw (p .before .before .enum-told .given .1) (p .other-response .ensures)
+    rw (p .before .before .before .command2 .given .1) (p .export-response .ensures)
 
 same-length-3 : tie.Need-same-length-3
 same-length-3 c = search needs
@@ -48,7 +48,7 @@ returns-3 : tie.Need-returns-3
 unfolding response
 returns-3 c =
     let p = c .before .before in
-    rw (p .before .before .enum-told2 .given .1) (p .other-response2 .ensures)
+    rw (p .before .before .enum-told .given .1) (p .other-response .ensures)
 
 pub respond-spec : {M : Type 1} → statement M
 respond-spec =
@@ -56,10 +56,10 @@ respond-spec =
     (tie.spec
     enum-known-command
     page-response-requires
+    enum-known-command-2
+    export-response-requires
     enum-told
     other-response-requires
-    enum-told-2
-    other-response-requires-2
     same-length
     returns
     same-length-2

@@ -71,6 +71,9 @@ collect-requires c κs =
 measure-requires : tie.Need-measure-requires
 measure-requires c κs = search needs
 
+refused-requires : tie.Need-refused-requires
+refused-requires c κs = search needs
+
 same-length : tie.Need-same-length
 same-length c = search needs
 
@@ -83,8 +86,12 @@ same-length-3 c = search needs
 returns : tie.Need-returns
 unfolding leaves
 returns c =
-    let m = c .before in
-    (sym (sized-far _ _ (sym (far m) ∙ c .if1 .taken)), refl)
+    let t = c .before in
+    let m = t .before in
+    (c .refused .ensures ∙ sym (sized-far _ _ (sym (far m) ∙ t .if1 .taken)), rw (c .refused .ensures))
+
+refused-requires-2 : tie.Need-refused-requires-2
+refused-requires-2 c κs = search needs
 
 same-length-4 : tie.Need-same-length-4
 same-length-4 c = search needs
@@ -98,8 +105,9 @@ same-length-6 c = search needs
 returns-2 : tie.Need-returns-2
 unfolding leaves
 returns-2 c =
-    let m = c .before .before .before in
-    (sym (sized-short (sym (far m) ∙ c .before .before .if1 .left) (omega (arith, long m))), refl)
+    let e = c .before .before .before in
+    let m = e .before in
+    (c .refused2 .ensures ∙ sym (sized-short (sym (far m) ∙ e .if1 .left) (omega (arith, long m))), rw (c .refused2 .ensures))
 
 cast-day : tie.Need-cast-day
 cast-day c = search needs
@@ -152,10 +160,12 @@ export-days-spec =
     pack-days-requires
     collect-requires
     measure-requires
+    refused-requires
     same-length
     same-length-2
     same-length-3
     returns
+    refused-requires-2
     same-length-4
     same-length-5
     same-length-6

@@ -44,6 +44,9 @@ export-span-requires c κs =
 enum-known-a-2 : tie.Need-enum-known-a-2
 enum-known-a-2 c = search needs
 
+refused-requires : tie.Need-refused-requires
+refused-requires c κs = search needs
+
 same-length : tie.Need-same-length
 same-length c = search needs
 
@@ -71,7 +74,9 @@ returns-2 c =
 
 returns-3 : tie.Need-returns-3
 unfolding exportFrom leaves
-returns-3 c = (sym (is-false (sym (c .before .span-ok .ensures) ∙ c .if1 .left) _ _), refl)
+returns-3 c =
+    let e = c .before in
+    (c .refused .ensures ∙ sym (is-false (sym (e .before .span-ok .ensures) ∙ e .if1 .left) _ _), rw (c .refused .ensures))
 
 pub export-in-spec : {M : Type 1} → statement M
 export-in-spec =
@@ -83,6 +88,7 @@ export-in-spec =
     enum-known-a
     export-span-requires
     enum-known-a-2
+    refused-requires
     same-length
     returns
     returns-2
