@@ -1,10 +1,12 @@
 /*
  * apptbook: the HP 95LX Appointment Book, its days, and the Windows Calendar file.
  *
- * C header of the proved library libcabi.a (x86-64). No call keeps anything between calls, allocates
- * memory or has a precondition: every argument gets an answer. A file is lent as a pointer and a number of
- * bytes; so many must be there, and whatever they are gets an answer too. A call reads them and changes none.
- * Only a buffer that is lent to be written into is changed, as said at the call.
+ * C header of the proved library libcabi.a (x86-64). No call keeps anything between calls or allocates
+ * memory, and every argument gets an answer. Bytes are lent as a pointer and a number; all that is asked of a
+ * caller is that so many are there, and that a buffer to be written to overlaps no other lent bytes. Whatever
+ * the bytes are, they get an answer too. A call reads a file's bytes and changes none.
+ * Only a buffer that is lent to be written into is changed, as said at the call. A call takes up to 90 kB of
+ * stack; 128 kB are enough for the caller too.
  *
  * An answer is a struct by value. It begins with
  *   number   APPTBOOK_ACCEPTED (0), or the number of the refusal;

@@ -62,7 +62,7 @@ pub fn export(
     export_by(day_by_day, file, first, count, choice, buffer)
 }
 
-/// The same in the fastest way known, for the bench.
+/// The same from one occurrence to the next, for the bench.
 pub fn export_by_occurrences(
     file: &[u8],
     first: u16,

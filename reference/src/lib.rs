@@ -4,16 +4,19 @@
 //! One module for each layer: `days` here is the plain one, `ffi::days` the proved one. Beside them:
 //! `vectors`, files written out by hand; `books` and `calendars`, which make files at random, and `writings`,
 //! which makes runs of writing calls; `civil` and `occurrences`, a third way to compute dates and when a
-//! record falls.
+//! record falls; `fuzz`, hostile inputs for every call and for the program; `callgrind`, which counts
+//! instructions.
 
 pub mod book;
 pub mod books;
 pub mod calendar;
 pub mod calendars;
+pub mod callgrind;
 pub mod civil;
 pub mod days;
 pub mod export;
 pub mod ffi;
+pub mod fuzz;
 pub mod notes;
 pub mod occurrences;
 pub mod pages;

@@ -1,4 +1,6 @@
 // The program: a book on standard input, a command in its arguments, the answer on standard output.
+ghost use mathlib.Core.Path.{_≡_};
+ghost use Prim.Native.Nat.{_-_};
 use commands::parsing::command_of;
 use commands::parsing::word_of;
 use commands::responding::respond;
@@ -16,8 +18,13 @@ fn word_at(i: usize, space: &mut [u8]) -> Word {
 }
 
 // The words after the program's own name.
-fn words_of(count: usize) -> usize {
-    if count == 0 { 0 } else { count - 1 }
+fn words_of(count: usize) -> usize
+    ensures { λ r. ⌜ r ≡ count - 1 ⌝ }
+{
+    if count == 0 {
+        return 0;
+    }
+    count - 1
 }
 
 fn main() {

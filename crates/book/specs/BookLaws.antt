@@ -6,14 +6,14 @@ use mathlib.Core.Bool.{true, false≢true}
 use mathlib.Core.List.{List, [], _∷_}
 use native.Mathlib.Omega.{arith}
 use native.Mathlib.Nat.{add-zero, zero-add}
-use lib.ListN.{length, getD, drop, length-map}
+use lib.ListN.{length, getD, drop}
 use lib.Seq.{drop-cons}
 use Rattle.prelude.specs.Choice.{lt-skip, b-take}
 use Rattle.prelude.specs.declared.refusals.Verdict.{Verdict}
 use Rattle.prelude.specs.declared.refusals.Refusal.{Refusal}
 use Rattle.book.specs.Settings.{identified, settingsOf, settingsOk}
 use Rattle.book.specs.Walk.{nextPlace, stepAt, Walk, more, ended, stopped, walkFrom, walkOf, placesIn}
-use Rattle.book.specs.Books.{afterEndRecord, accepted, counted, bookOf, entryAt, placesOf, entriesOf}
+use Rattle.book.specs.Books.{afterEndRecord, accepted, counted, bookOf, placesOf}
 use Rattle.book.specs.WalkLaws.{At, at-first, at-next, RecordAt, step-record, walk-record, walk-end, walk-stop}
 use Rattle.book.specs.declared.types.Settings.{Settings}
 use Rattle.book.specs.declared.types.Book.{Book}
@@ -69,10 +69,6 @@ book-accepted f {b} e =
       settings = h .0;
       count = h .1 ∙ zero-add _;
     }
-
-pub length-entries : (f : List ℕ) → length (entriesOf f) ≡ length (placesOf f)
-unfolding entriesOf
-length-entries f = length-map (placesOf f) (entryAt f)
 
 -- the place of record n: what is ahead of it are the records from n on
 pub record Cursor (f : List ℕ) (n at : ℕ) : Type 0 where

@@ -70,12 +70,6 @@ module _ (f : List ℕ) (at : ℕ) where
       let k = h .known (e2 .0) in
       (record { low = k .0; high = k .1; body = k .2; fine = e3 .0 }, sym (record-inj (e3 .1)))
 
-  pub step-end : stepAt f at ≡ StepAnswer.End → at + 3 ≤ length f
-  unfolding stepAt judged
-  step-end e =
-      let e1 = eq-take (judgeHead (length f) at (typeAt f at) (lengthAt f at)) 0 _ _ no-end e in
-      head-fine (e1 .0) .head
-
 -- n records lie behind the place
 pub record At (f : List ℕ) (n at : ℕ) : Type 0 where
   pub low : 12 + 3 * n ≤ at

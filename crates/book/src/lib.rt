@@ -3,5 +3,5 @@ pub mod entries;
 pub mod lines;
 pub mod reading;
 pub mod settings;
-pub mod steps;
+mod steps;
 pub mod types;

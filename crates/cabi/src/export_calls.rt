@@ -6,6 +6,7 @@ ghost use Rattle.cabi.specs.PageCalls.{choiceOf};
 ghost use Rattle.cabi.specs.ExportCalls.{exportOut};
 use crate::page_calls::CountOut;
 use crate::page_calls::choice_of;
+use days::types::CalendarDay;
 use export::types::ExportAnswer;
 
 fn export_out(a: ExportAnswer) -> CountOut
@@ -39,5 +40,6 @@ pub extern "C" fn apptbook_export(
         ⌜ now (buffer .exit) ≡ exportLeaves (showsUnder (choiceOf last)) (now (file .entry)) first count (now (buffer .entry)) ⌝ }
 {
     let c = choice_of(last);
-    export_out(exporting::calls::export(file, first as u32, count as u32, c, buffer))
+    let n = CalendarDay(first);
+    export_out(exporting::calls::export(file, n, count, c, buffer))
 }

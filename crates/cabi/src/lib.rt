@@ -1,4 +1,4 @@
-// The static library: every public call of the layers below, for C and Rust to link. include/apptbook.h is its header.
+// The static library: the calls that C and Rust link. include/apptbook.h is its header.
 pub mod book_calls;
 pub mod calendar_calls;
 pub mod days_calls;

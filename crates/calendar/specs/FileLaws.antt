@@ -1,8 +1,8 @@
 -- Laws of the Calendar file as it is written: its recursions one element at a time, how long each part is, and where table and blocks begin.
 -- Assumes nothing.
-use Prim.Native.Nat.{ℕ, _+_, _*_, _%_}
+use Prim.Native.Nat.{ℕ, _+_, _-_, _*_, _%_}
 use mathlib.Core.Path.{_≡_, refl, _∙_, ap}
-use mathlib.Core.List.{List, [], _∷_, _++_}
+use mathlib.Core.List.{List, [], _∷_, _++_, append-assoc}
 use native.Mathlib.Omega.{arith}
 use lib.ListN.{length, drop, length-append, length-replicate}
 use lib.Seq.{drop-drop, drop-at}
@@ -16,6 +16,11 @@ length-zeros n = length-replicate n 0
 pub length-filled : (xs : List ℕ) → length (filled xs) ≡ 64 * units (length xs)
 unfolding filled
 length-filled xs = simp (length-append, length-zeros) (omega arith)
+
+-- a filled piece is the piece, then zeros
+pub filled-piece : (xs post : List ℕ) → filled xs ++ post ≡ xs ++ (zeros (64 * units (length xs) - length xs) ++ post)
+unfolding filled
+filled-piece xs post = append-assoc xs _ post
 
 -- appointments
 pub length-appointment : (a : Appointment) → length (appointmentBytes a) ≡ 5 + length (a .text)
@@ -50,6 +55,9 @@ blocks-nil = refl
 pub blocks-cons : (d : Day) (ds : List Day) → blocks (d ∷ ds) ≡ filled (blockBytes d) ++ blocks ds
 unfolding blocks
 blocks-cons d ds = refl
+
+pub length-blocks : (d : Day) (ds : List Day) → length (blocks (d ∷ ds)) ≡ 64 * units (length (blockBytes d)) + length (blocks ds)
+length-blocks d ds = rw (blocks-cons d ds, length-append, length-filled (blockBytes d))
 
 -- descriptors
 pub length-descriptor : (u : ℕ) (d : Day) → length (descriptorBytes u d) ≡ 12

@@ -143,10 +143,6 @@ pub places-end : placesIn ended ≡ []
 unfolding placesIn
 places-end = refl
 
-pub places-stop : (at : ℕ) → placesIn (stopped at) ≡ []
-unfolding placesIn
-places-stop at = refl
-
 pub verdict-more : (at : ℕ) (w : Walk) → verdictIn (more at w) ≡ verdictIn w
 unfolding verdictIn
 verdict-more at w = refl

@@ -54,14 +54,6 @@ module _ (f : List ℕ) (p low : ℕ) where
   unfolding tableFrom
   table-rises k h l = is-ge h _ _ ∙ is-ge l _ _
 
-  -- what a table without refusal says of its first descriptor and of the others
-  pub table-fine : (k : ℕ) → tableFrom (suc k) f p low ≡ Verdict.Fine → (dayAt f p ≤ lastDay) × (low ≤ dayAt f p) × (tableFrom k f (p + 12) (dayAt f p + 1) ≡ Verdict.Fine)
-  unfolding tableFrom
-  table-fine k h =
-      let e1 = lt-skip lastDay (dayAt f p) _ _ refused-not h in
-      let e2 = lt-skip (dayAt f p) low _ _ refused-not (e1 .1) in
-      (e1 .0, e2 .0, e2 .1)
-
 -- what the block of the descriptor at p is
 pub record BlockAt (f : List ℕ) (p : ℕ) : Type 0 where
   pub low-bits : offsetAt f p ≤ 32767
@@ -123,10 +115,6 @@ module _ (f : List ℕ) (p : ℕ) where
 pub answer-fine : (n : ℕ) → answered n Verdict.Fine ≡ CalendarAnswer.Accepted n
 unfolding answered
 answer-fine n = refl
-
-pub answer-refused : (n : ℕ) (e : Refusal) → answered n (Verdict.Refused e) ≡ CalendarAnswer.Refused e
-unfolding answered
-answer-refused n e = refl
 
 answer-taken : (n : ℕ) (v : Verdict) {m : ℕ} → answered n v ≡ CalendarAnswer.Accepted m → (m ≡ n) × (v ≡ Verdict.Fine)
 unfolding answered

@@ -1,7 +1,7 @@
 // The Windows Calendar file: reading it, with document 01's refusals 20 to 24, and what it shows.
-pub mod entries;
-pub mod head;
-pub mod lists;
+mod entries;
+mod head;
+mod lists;
 pub mod reading;
 pub mod shown;
 pub mod types;

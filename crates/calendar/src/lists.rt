@@ -1,9 +1,12 @@
-// A day's list of appointments: 24 at the first place where none stands.
+// A day's list of appointments: where it lies, and 24 at the first place where none stands.
 ghost use mathlib.Core.Path.{_≡_};
 ghost use Prim.Native.Nat.{_+_, _-_, _<_, _≤_};
 ghost use lib.ListN.{length};
 ghost use Rattle.calendar.specs.Lists.{sizeAt, firstZero, textEnds, appointmentOk, walkFrom, verdictIn};
 ghost use Rattle.calendar.specs.ListLaws.{ZeroLast, ListIn};
+ghost use Rattle.calendar.specs.Reader.{blockAt, listPlace, listEnd};
+ghost use Rattle.calendar.specs.ReaderLaws.{BlockAt};
+use crate::types::Span;
 use prelude::refusals::BAD_APPOINTMENT;
 use prelude::refusals::Refusal;
 use prelude::refusals::Verdict;
@@ -14,6 +17,18 @@ fn wide(b: u8) -> usize
     ensures { λ r. ⌜ (r ≡ b) × (r < 256) ⌝ }
 {
     b as usize
+}
+
+// Where the list of the day lies whose descriptor stands at p.
+pub fn span_of(file: &[u8], p: usize) -> Span
+    requires { ⌜ p + 12 ≤ length (now file) ⌝ }
+    requires { ⌜ BlockAt (now file) p ⌝ }
+    ensures { λ r. ⌜ (r .from ≡ listPlace (now (file .entry)) (blockAt (now (file .entry)) p)) × (r .end ≡ listEnd (now (file .entry)) (blockAt (now (file .entry)) p)) ⌝ }
+{
+    let block = 64 * (word_in(file, p + 6) as usize);
+    let from = block + 10 + word_in(file, block + 6) as usize;
+    let end = from + word_in(file, block + 8) as usize;
+    Span { from, end }
 }
 
 // The size of the appointment at a place.

@@ -1,15 +1,14 @@
 // Reading a Calendar file: head, table, then each day's block and list. One pass, linear in what they hold.
 ghost use mathlib.Core.Path.{_≡_};
-ghost use Prim.Native.Nat.{_+_, _≤_};
-ghost use lib.ListN.{length};
-ghost use Rattle.calendar.specs.Reader.{tableFrom, blockAt, listPlace, listEnd, blockOk, dayVerdict, daysFrom, andThen, answered, calendarOf};
-ghost use Rattle.calendar.specs.ReaderLaws.{WholeTable, InTable, BlockAt};
+ghost use Prim.Native.Nat.{_+_};
+ghost use Rattle.calendar.specs.Reader.{tableFrom, blockOk, dayVerdict, daysFrom, andThen, answered, calendarOf};
+ghost use Rattle.calendar.specs.ReaderLaws.{WholeTable, InTable};
 use crate::head::count_of;
 use crate::head::is_calendar;
 use crate::head::judge_table;
 use crate::lists::judge_list;
+use crate::lists::span_of;
 use crate::types::CalendarAnswer;
-use crate::types::Span;
 use prelude::refusals::BAD_BLOCK;
 use prelude::refusals::BAD_TABLE;
 use prelude::refusals::CALENDAR_TOO_LONG;
@@ -49,18 +48,6 @@ fn block_ok(file: &[u8], p: usize, table_end: usize) -> bool
         return false;
     }
     true
-}
-
-// Where the list of the day lies whose descriptor stands at p.
-pub fn span_of(file: &[u8], p: usize) -> Span
-    requires { ⌜ p + 12 ≤ length (now file) ⌝ }
-    requires { ⌜ BlockAt (now file) p ⌝ }
-    ensures { λ r. ⌜ (r .from ≡ listPlace (now (file .entry)) (blockAt (now (file .entry)) p)) × (r .end ≡ listEnd (now (file .entry)) (blockAt (now (file .entry)) p)) ⌝ }
-{
-    let block = 64 * (word_in(file, p + 6) as usize);
-    let from = block + 10 + word_in(file, block + 6) as usize;
-    let end = from + word_in(file, block + 8) as usize;
-    Span { from, end }
 }
 
 // The day whose descriptor stands at p: 23, then 24.

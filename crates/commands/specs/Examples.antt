@@ -13,7 +13,7 @@ use Rattle.calendar.specs.Examples as calendar
 use Rattle.export.specs.Examples.{case-file, case-answers}
 use Rattle.commands.specs.Words.{spelled, wordOf}
 use Rattle.commands.specs.Commands.{withNumber, withChoice, oneWord, afterDay, twoWords, threeWords, commandOf}
-use Rattle.commands.specs.Responses.{refusalText, pageResponse, exportText, exportResponse, response}
+use Rattle.commands.specs.Responses.{programRoom, refusalText, pageResponse, exportText, exportResponse, response}
 use Rattle.commands.specs.declared.types.Word.{Word}
 use Rattle.commands.specs.declared.types.Command.{Command}
 
@@ -41,11 +41,11 @@ unfolding refusalText decimal decimalF ifLt
 refused = refl
 
 -- "One whole case": the two lines
-pub case-answer : response case (Command.Page 4822 ShortMonth.Skip) 65536 ≡ caseHead ++ caseLine
+pub case-answer : response case (Command.Page 4822 ShortMonth.Skip) programRoom ≡ caseHead ++ caseLine
 unfolding response pageResponse asked askedOf ifLt
 case-answer = rw (case-accepted, case-page)
 
 -- its export, 192 bytes
-pub case-exported : response case (Command.Export 4820 7 ShortMonth.Skip) 65536 ≡ calendar.case
+pub case-exported : response case (Command.Export 4820 7 ShortMonth.Skip) programRoom ≡ calendar.case
 unfolding response exportResponse exportText
 case-exported = rw (case-answers .2, case-file)

@@ -26,7 +26,7 @@ use Rattle.printing.specs.SizeLaws.{page-most}
 use Rattle.export.specs.Export.{spanOk, exportFile, exportFrom, exportAnswer, exportLeaves, showsUnder}
 use Rattle.export.specs.AnswerLaws.{success, left-refused, left-written}
 use Rattle.export.specs.declared.types.ExportAnswer.{ExportAnswer}
-use Rattle.commands.specs.Responses.{refusalText, pageResponse, exportText, exportResponse, otherResponse, response}
+use Rattle.commands.specs.Responses.{programRoom, refusalText, pageResponse, exportText, exportResponse, otherResponse, response}
 use Rattle.commands.specs.declared.types.Command.{Command}
 
 -- the room that any refusal of the machine's numbers needs
@@ -68,12 +68,12 @@ pub export-beyond : (f : List ℕ) (c : ShortMonth) (room first count : ℕ) →
 unfolding exportResponse exportAnswer
 export-beyond f c room first count h = beyond-span-of f c room first count (bookOf f) h
 
--- 12 never happens with 65,535 bytes of room
-pub page-whole : (f : List ℕ) (d : ℕ) (c : ShortMonth) (room : ℕ) {a : Ready} → asked f (record { 0 = d }) ≡ Asked.Ready a → 65535 ≤ room → response f (Command.Page d c) room ≡ pageText f c (a .facts)
+-- 12 never happens to a page in the program's room
+pub page-whole : (f : List ℕ) (d : ℕ) (c : ShortMonth) {a : Ready} → asked f (record { 0 = d }) ≡ Asked.Ready a → response f (Command.Page d c) programRoom ≡ pageText f c (a .facts)
 unfolding response pageResponse
-page-whole f d c room {a} q h =
+page-whole f d c {a} q =
     let m = page-most f c a (asked-ready f (record { 0 = d }) q) in
-    ap (pageResponse f c room) q ∙ is-ge (omega arith) _ _
+    ap (pageResponse f c programRoom) q ∙ is-ge (omega arith) _ _
 
 -- what a printed page's answer says of the bytes that the program writes
 pub record Counted (f : List ℕ) (c : ShortMonth) (out : List ℕ) (q : Asked) (n : ℕ) : Type 0 where

@@ -27,6 +27,10 @@ pageResponse f c room (Asked.Ready a) =
     ifLt room (length (pageText f c (a .facts))) (refusalText (refusal noRoom)) (pageText f c (a .facts))
 pageResponse f c room (Asked.Refused e) = refusalText e
 
+-- "Its Calendar room is 65,536 bytes"
+abbrev pub programRoom : ℕ
+programRoom = 65536
+
 -- a Calendar file, or what the export says instead
 unfoldable pub exportText : List ℕ → ExportAnswer → List ℕ
 exportText file (ExportAnswer.Written n) = file

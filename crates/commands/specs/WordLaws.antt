@@ -1,6 +1,6 @@
 -- Laws of words: what is spelled, and that days and counts are compared as they are, however long their numbers.
 -- Assumes nothing.
-use Prim.Native.Nat.{ℕ, _<_, _≤_}
+use Prim.Native.Nat.{ℕ}
 use mathlib.Core.Path.{_≡_, refl, sym, _∙_}
 use mathlib.Core.Bool.{true, false, false≢true}
 use mathlib.Core.List.{List, [], _∷_}
@@ -13,9 +13,9 @@ use Rattle.digits.specs.NumberLaws.{capped-below, capped-above}
 use Rattle.book.specs.Books.{bookOf}
 use Rattle.book.specs.declared.types.BookAnswer.{BookAnswer}
 use Rattle.pages.specs.Answers.{askedOf, asked}
-use Rattle.days.specs.Days.{lastDay}
 use Rattle.falls.specs.declared.types.ShortMonth.{ShortMonth}
 use Rattle.export.specs.Export.{spanOk}
+use Rattle.export.specs.AnswerLaws.{first-beyond, count-beyond}
 use Rattle.commands.specs.Words.{spelled}
 use Rattle.commands.specs.Responses.{exportResponse}
 use Rattle.commands.specs.ResponseLaws.{export-beyond}
@@ -53,14 +53,6 @@ unfolding asked
 asked-capped f v = asked-capped-of (bookOf f) v
 
 -- the same of an export's first day and count
-first-beyond : (first count : ℕ) → lastDay < first → spanOk first count ≡ false
-unfolding spanOk
-first-beyond first count h = is-lt h _ _
-
-count-beyond : (first count : ℕ) → 366 < count → spanOk first count ≡ false
-unfolding spanOk
-count-beyond first count h = lt-elim (λ b. b ≡ false) lastDay first _ _ (λ _. refl) (λ _. is-lt h _ _)
-
 module _ (f : List ℕ) (c : ShortMonth) (room v w : ℕ) where
   both-beyond : spanOk (capped v) (capped w) ≡ false → spanOk v w ≡ false → exportResponse f c room (capped v) (capped w) ≡ exportResponse f c room v w
   both-beyond h k = export-beyond f c room (capped v) (capped w) h ∙ sym (export-beyond f c room v w k)

@@ -78,7 +78,13 @@ fn export_response(file: &[u8], first: u32, count: u32, c: ShortMonth, out: &mut
         ⌜ now (out .exit) ≡ splice (now (out .entry)) 0 (exportResponse (now (file .entry)) c (length (now (out .entry))) first count) ⌝ }
     ensures within { λ r. ⌜ r ≤ length (now (out .entry)) ⌝ }
 {
-    let a = export(file, first, count, c, out);
+    if 65535 < first {
+        return other_response(file, out);
+    }
+    if 65535 < count {
+        return other_response(file, out);
+    }
+    let a = export(file, CalendarDay(first as u16), count as u16, c, out);
     match a {
         ExportAnswer::Written(n) => n,
         ExportAnswer::Refused(e) => put_refusal(out, e),

@@ -1,6 +1,6 @@
 // Day numbers: the day of a date, the date and the weekday of a day.
 ghost use mathlib.Core.Path.{_≡_};
-ghost use Prim.Native.Nat.{_≤_};
+ghost use Prim.Native.Nat.{_+_, _-_, _*_, _/_, _<_, _≤_};
 ghost use Rattle.days.specs.Days.{dayNumber, dateOf, weekdayOf, lastDay};
 ghost use Rattle.days.specs.DateLaws.{Valid};
 ghost use Rattle.days.specs.Answers.{dayAnswer, dateAnswer, weekdayAnswer};
@@ -15,17 +15,25 @@ use crate::types::Date;
 use prelude::refusals::OUT_OF_RANGE;
 use prelude::refusals::Refusal;
 
-// The day of a real date.
+// The days from 1 March 1976 to the first of a month, 3 = March to 14 = February. So counted each fourth year is a leap year up to 2099, and its leap day is its last.
+fn days_from_march(years: u16, month: u16) -> u16
+    requires { ⌜ years < 124 ⌝ }
+    requires { ⌜ 3 ≤ month ⌝ }
+    requires { ⌜ month ≤ 14 ⌝ }
+    ensures { λ r. ⌜ r ≡ 365 * years + years / 4 + (979 * month - 2919) / 32 ⌝ }
+{
+    365 * years + years / 4 + (979 * month - 2919) / 32
+}
+
+// The day of a real date, by that count. Day 0 is day 1,401 of it.
 fn day_of(d: Date) -> u16
     requires { ⌜ Valid d ⌝ }
     ensures { λ r. ⌜ r ≡ dayNumber d ⌝ }
 {
-    let t = table();
-    let year = d.year - 1980;
-    let month = d.month - 1;
-    let day = d.day - 1;
-    let i = (year * 12 + month) as usize;
-    t[i] + day
+    if d.month < 3 {
+        return days_from_march(d.year - 1977, d.month + 12) + d.day - 1402;
+    }
+    days_from_march(d.year - 1976, d.month) + d.day - 1402
 }
 
 // The Calendar day of a date.

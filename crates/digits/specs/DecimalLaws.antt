@@ -8,15 +8,7 @@ use native.Mathlib.Nat.{pow-suc, one-le-pow}
 use native.Mathlib.Numerals.{add-one}
 use lib.ListN.{length, length-append}
 use Rattle.prelude.specs.Choice.{is-lt, is-ge, lt-elim}
-use Rattle.digits.specs.Digits.{digit, two, four, decimalF, decimal, digitCount}
-
-pub length-two : (n : ℕ) → length (two n) ≡ 2
-unfolding two
-length-two n = refl
-
-pub length-four : (n : ℕ) → length (four n) ≡ 4
-unfolding two four
-length-four n = refl
+use Rattle.digits.specs.Digits.{digit, decimalF, decimal}
 
 -- A number is below 10 or it is not.
 ten-or-not : {P : Type 0} (n : ℕ) → (n < 10 → P) → (10 ≤ n → P) → P
@@ -57,11 +49,6 @@ ind-below P one more (suc k) n h =
 
 pub decimal-ind : (P : ℕ → Type 0) → ((n : ℕ) → n < 10 → P n) → ((n : ℕ) → 10 ≤ n → P (n / 10) → P n) → (n : ℕ) → P n
 decimal-ind P one more n = ind-below P one more (suc n) n (omega arith)
-
--- How many digits there are.
-pub digit-count : (n : ℕ) → digitCount n ≡ length (decimal n)
-unfolding digitCount
-digit-count n = refl
 
 pub length-one : {n : ℕ} → n < 10 → length (decimal n) ≡ 1
 length-one h = ap length (decimal-one h)

@@ -28,10 +28,6 @@ decimalF (suc k) n = ifLt n 10 (digit n ∷ []) (decimalF k (n / 10) ++ (digit n
 unfoldable pub decimal : ℕ → List ℕ
 decimal n = decimalF (suc n) n
 
--- how many there are
-unfoldable pub digitCount : ℕ → ℕ
-digitCount n = length (decimal n)
-
 -- "in decimal": the value of a word behind bytes of value v. A byte counts what it has above 48, so that every word has a value.
 unfoldable pub valueFrom : ℕ → List ℕ → ℕ
 valueFrom v [] = v

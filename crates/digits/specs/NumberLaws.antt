@@ -1,7 +1,7 @@
 -- Laws of numbers as words: byte by byte, of what `decimal` prints, and of the comparison with small numbers.
 -- Assumes nothing.
 use Prim.Native.Nat.{ℕ, _+_, _-_, _*_, _/_, _%_, _<_, _≤_}
-use mathlib.Core.Path.{_≡_, refl, sym, _∙_}
+use mathlib.Core.Path.{_≡_, refl, _∙_}
 use mathlib.Core.Logic.{_↔_}
 use mathlib.Core.Bool.{true, false}
 use mathlib.Core.List.{List, [], _∷_, _++_}
@@ -9,7 +9,7 @@ use native.Mathlib.Omega.{arith}
 use native.Mathlib.Numerals.{add-one}
 use lib.ListN.{length, drop, drop-of-length-le}
 use lib.Seq.{drop-cons}
-use Rattle.prelude.specs.Choice.{ifLt, is-lt, is-ge, is-eq, is-ne, lt-elim, lt-skip}
+use Rattle.prelude.specs.Choice.{is-lt, is-ge, is-eq, is-ne, lt-elim, lt-skip}
 use Rattle.prelude.specs.Bytes.{byte}
 use Rattle.digits.specs.Digits.{decimal, valueFrom, value, allDigits, isNumber, capped}
 use Rattle.digits.specs.DecimalLaws.{decimal-one, decimal-more, decimal-ind, length-positive}
@@ -113,21 +113,7 @@ capped-above h = is-ge h _ _
 pub capped-larger : {v : ℕ} (xs : List ℕ) → 65535 < v → capped (valueFrom v xs) ≡ 65536
 capped-larger {v} xs h = let g = value-grows v xs in capped-above (omega arith)
 
-pub capped-at-most : (n : ℕ) → capped n ≤ 65536
-unfolding capped
-capped-at-most n = lt-elim (λ r. r ≤ 65536) n 65536 _ _ (λ h. omega arith) (λ h. omega arith)
-
 pub capped-le : {k : ℕ} (n : ℕ) → k < 65536 → (capped n ≤ k) ↔ (n ≤ k)
 unfolding capped
 capped-le {k} n h =
     lt-elim (λ r. (r ≤ k) ↔ (n ≤ k)) n 65536 _ _ (λ l. (λ e. e, λ e. e)) (λ g. (λ e. omega arith, λ e. omega arith))
-
--- what passed such a comparison is the value itself
-pub capped-same : {n k : ℕ} → capped n ≤ k → k < 65536 → capped n ≡ n
-capped-same {n} {k} l h = let m = capped-le n h .0 l in capped-below (omega arith)
-
--- the same of a choice
-pub capped-choice : {X : Type 0} {k : ℕ} (n : ℕ) (x y : X) → k < 65536 → ifLt k (capped n) x y ≡ ifLt k n x y
-unfolding capped
-capped-choice {X} {k} n x y h =
-    lt-elim (λ r. ifLt k r x y ≡ ifLt k n x y) n 65536 _ _ (λ l. refl) (λ g. is-lt h x y ∙ sym (is-lt (omega arith) x y))

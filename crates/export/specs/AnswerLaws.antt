@@ -6,7 +6,7 @@ use mathlib.Core.Bool.{Bool, true, false, false≢true}
 use mathlib.Core.List.{List}
 use native.Mathlib.Omega.{arith}
 use lib.ListN.{length, take, drop}
-use Rattle.prelude.specs.Choice.{is-lt, is-ge, is-true, is-false, lt-skip, b-skip, b-take}
+use Rattle.prelude.specs.Choice.{is-lt, is-ge, is-true, is-false, lt-elim, lt-skip, b-skip, b-take}
 use Rattle.prelude.specs.Refusals.{noRoom, tooManyBlocks, refusal}
 use Rattle.prelude.specs.Splice.{splice, splice-take, splice-drop}
 use Rattle.prelude.specs.declared.refusals.Refusal.{Refusal}
@@ -36,6 +36,15 @@ module _ {first count : ℕ} where
   pub facts-span : Span first count → spanOk first count ≡ true
   unfolding spanOk
   facts-span s = is-ge (s .day) _ _ ∙ is-ge (s .most) _ _ ∙ is-ge (s .end) _ _
+
+-- out of range by the first day, by the count
+pub first-beyond : (first count : ℕ) → lastDay < first → spanOk first count ≡ false
+unfolding spanOk
+first-beyond first count h = is-lt h _ _
+
+pub count-beyond : (first count : ℕ) → 366 < count → spanOk first count ≡ false
+unfolding spanOk
+count-beyond first count h = lt-elim (λ b. b ≡ false) lastDay first _ _ (λ _. refl) (λ _. is-lt h _ _)
 
 refused-not : {e : Refusal} {n : ℕ} → ExportAnswer.Refused e ≡ ExportAnswer.Written n → ⊥
 refused-not c = let z : _≡_ {A = ℕ} 0 1 = cc in omega arith

@@ -14,8 +14,8 @@ use Rattle.calendar.specs.File.{Appointment, appointmentsBytes, alarms}
 use Rattle.pages.specs.Pages.{Numbered, numbered, hours, startOf, pageOf}
 use Rattle.pages.specs.PageLaws.{length-page}
 use Rattle.export.specs.Export.{bit, specialTime, appointmentOf, appointmentsFor}
-use Rattle.export.specs.SizeLaws.{length-appointment}
-use Rattle.export.specs.Totals.{total, total-sort, total-keep, total-map, total-cong}
+use Rattle.calendar.specs.FileLaws.{length-appointment}
+use Rattle.prelude.specs.Totals.{total, total-sort, total-keep, total-map, total-cong}
 use Rattle.export.specs.ListRead.{GoodAppointment}
 use Rattle.export.specs.RecordLaws.{GoodRecord, sizeOf, GoodBook}
 use Rattle.export.specs.SpanLaws.{GoodSize}

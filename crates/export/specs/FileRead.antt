@@ -15,7 +15,7 @@ use Rattle.calendar.specs.ReaderLaws.{facts-calendar}
 use Rattle.calendar.specs.declared.types.CalendarSettings.{CalendarSettings}
 use Rattle.calendar.specs.declared.types.CalendarAnswer.{CalendarAnswer}
 use Rattle.export.specs.Pieces.{From, from-start, recast, moved-to, skip, word-here}
-use Rattle.export.specs.SizeLaws.{length-block, length-table, length-head, length-filled, filled-piece, length-blocks, length-file}
+use Rattle.calendar.specs.FileLaws.{length-block, length-table, length-head, length-filled, filled-piece, length-blocks, length-file}
 use Rattle.export.specs.TableRead.{GoodDays, listOn, TableRead, table-read}
 
 -- the blocks end in time: the last starts below block 32,768 and has at most 65,545 bytes

@@ -4,12 +4,10 @@ pub mod Examples
 pub mod Demand
 pub mod Theorem
 pub mod Pieces
-pub mod SizeLaws
 pub mod ListRead
 pub mod DayRead
 pub mod TableRead
 pub mod FileRead
-pub mod Totals
 pub mod RecordLaws
 pub mod SpanLaws
 pub mod AppointmentLaws

@@ -16,7 +16,7 @@ use Rattle.calendar.specs.Lists.{sizeAt, flagsAt, minuteAt, nextAt, firstZero, 
 use Rattle.calendar.specs.Shown.{appointmentAt}
 use Rattle.calendar.specs.ListLaws.{zero-here, zero-later, AppointmentAt, facts-ok, walk-end, walk-more, places-more, places-end, verdict-more, verdict-end}
 use Rattle.export.specs.Pieces.{From, recast, moved-to, skip, part-here, byte-here, word-here}
-use Rattle.export.specs.SizeLaws.{length-appointment}
+use Rattle.calendar.specs.FileLaws.{length-appointment}
 
 -- an appointment that the reader takes as it is
 pub record GoodAppointment (a : Appointment) : Type 0 where

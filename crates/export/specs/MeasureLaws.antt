@@ -11,8 +11,8 @@ use Rattle.prelude.specs.Choice.{ifLt, is-lt, is-ge, lt-elim}
 use Rattle.calendar.specs.File.{Day, units, blockBytes, blocks, firstUnit, fileOf}
 use Rattle.calendar.specs.declared.types.CalendarSettings.{CalendarSettings}
 use Rattle.export.specs.Export.{farFrom, tooFar}
-use Rattle.export.specs.SizeLaws.{length-blocks, length-file}
-use Rattle.export.specs.Totals.{total}
+use Rattle.calendar.specs.FileLaws.{length-blocks, length-file}
+use Rattle.prelude.specs.Totals.{total}
 
 -- the units that a day's block takes
 abbrev pub unitsOf : Day → ℕ

@@ -26,7 +26,7 @@ use Rattle.falls.specs.Times.{timesOf}
 use Rattle.pages.specs.Pages.{Numbered, numbered, startOf}
 use Rattle.pages.specs.PageLaws.{numberedAt, numbered-first, numbered-end, recordAt, turn}
 use Rattle.export.specs.Export.{textOf}
-use Rattle.export.specs.Totals.{total, total-nil, total-cons}
+use Rattle.prelude.specs.Totals.{total, total-nil, total-cons}
 
 -- a part of a part
 drop-take : (i m n : ℕ) (l : List ℕ) → i + m ≤ n → take m (drop i (take n l)) ≡ take m (drop i l)

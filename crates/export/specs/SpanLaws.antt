@@ -5,7 +5,6 @@ use mathlib.Core.Path.{_≡_, refl, _∙_}
 use mathlib.Core.Bool.{false, true≢false}
 use mathlib.Core.List.{List, [], _∷_}
 use native.Mathlib.Omega.{arith}
-use native.Mathlib.Numerals.{add-one}
 use lib.ListN.{length}
 use Rattle.prelude.specs.Choice.{is-eq, is-ne, eq-elim, lt-skip}
 use Rattle.days.specs.Days.{lastDay}
@@ -55,10 +54,6 @@ before-good d low u (a ∷ al) ds g k l far next =
     let e = lt-skip 32767 u _ _ true≢false far in
     (record { known = k; size = g .size; list = g .list }, l, e .0, next (d + 1) _ (omega arith) (e .1))
 
--- the days from d up to an end
-abbrev pub daysTo : (ℕ → List Appointment) → ℕ → ℕ → List Day
-daysTo list d end = daysWith list (end - d) d
-
 module _ (list : ℕ → List Appointment) where
   -- one day at a time
   pub days-none : (d : ℕ) → daysWith list 0 d ≡ []
@@ -68,15 +63,6 @@ module _ (list : ℕ → List Appointment) where
   pub days-next : (k d : ℕ) → daysWith list (suc k) d ≡ dayBefore d (list d) (daysWith list k (suc d))
   unfolding daysWith
   days-next k d = refl
-
-  -- the same up to an end, as a loop counts
-  pub days-end : (d end : ℕ) → end ≤ d → daysTo list d end ≡ []
-  days-end d end h = let k : end - d ≡ 0 = omega arith in rw k (days-none d)
-
-  pub days-more : (d end : ℕ) → d < end → daysTo list d end ≡ dayBefore d (list d) (daysTo list (d + 1) end)
-  days-more d end h =
-      let k : end - d ≡ suc (end - (d + 1)) = omega arith in
-      rw (k, add-one d) (days-next (end - suc d) d)
 
   pub days-few : (k d : ℕ) → length (daysWith list k d) ≤ k
   unfolding daysWith

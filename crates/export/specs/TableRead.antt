@@ -13,7 +13,7 @@ use Rattle.calendar.specs.Reader.{tableEnd, dayAt, listOf, tableFrom, daysFrom}
 use Rattle.calendar.specs.Shown.{placesFrom, appointmentAt}
 use Rattle.calendar.specs.ReaderLaws.{table-none, table-rises, days-none, days-next}
 use Rattle.export.specs.Pieces.{From, recast, moved-to, skip}
-use Rattle.export.specs.SizeLaws.{length-filled, filled-piece}
+use Rattle.calendar.specs.FileLaws.{length-filled, filled-piece}
 use Rattle.export.specs.DayRead.{GoodDay, Described, described, DayRead, day-read}
 
 -- days that the reader takes as they are, none before low, whose first block stands at unit u

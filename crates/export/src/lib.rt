@@ -1,2 +1,2 @@
-// The export: a book and a span of days as a Calendar file. Types; the code comes later.
+// The export: a book and a span of days as a Calendar file. Its definitions, demand 3, and what it gives; the code is in crate exporting.
 pub mod types;

@@ -3,36 +3,29 @@
 use Prim.Native.Nat.{ℕ, _+_, _*_, _/_, _%_, _<_, _≤_}
 use mathlib.Core.Path.{_≡_, refl, sym, ap, _∙_}
 use mathlib.Core.Bool.{Bool, true, false, true≢false}
-use mathlib.Core.List.{List, [], _∷_, map, List·Memᴰ, List·Memᴰ·head, List·Memᴰ·tail}
+use mathlib.Core.List.{List, [], _∷_, List·Memᴰ, List·Memᴰ·head, List·Memᴰ·tail}
 use native.Mathlib.Omega.{arith}
 use lib.ListN.{length, getD, drop, length-drop}
 use lib.Seq.{length-take-le}
-use Rattle.prelude.specs.Choice.{tested, is-true, is-false}
+use Rattle.prelude.specs.Choice.{tested}
 use Rattle.prelude.specs.Keep.{keep, keep-nil, keep-yes, keep-no, keep-member}
 use Rattle.prelude.specs.Order.{sort, keep-sort}
-use Rattle.days.specs.Days.{lastDay}
-use Rattle.days.specs.Facts.{factsOf}
-use Rattle.records.specs.Fields.{textLength, noteLength}
-use Rattle.records.specs.Ranges.{recordOk}
 use Rattle.records.specs.JudgeLaws.{Judged, judged}
 use Rattle.book.specs.Walk.{typeAt, bodyAt}
-use Rattle.book.specs.Books.{bookOf, entryAt, placesOf}
-use Rattle.book.specs.BookLaws.{AcceptedBook}
+use Rattle.book.specs.Books.{entryAt, placesOf}
 use Rattle.book.specs.WalkLaws.{RecordAt}
 use Rattle.book.specs.EntryLaws.{Inside, entry-inside, record-there}
 use Rattle.falls.specs.declared.types.ShortMonth.{ShortMonth}
 use Rattle.pages.specs.Pages.{Numbered, numbered, hours, startOf, pageOf}
-use Rattle.pages.specs.PageLaws.{recordAt}
-use Rattle.pages.specs.DecodeLaws.{Placed, placed, place-inside}
+use Rattle.pages.specs.DecodeLaws.{Placed, placed}
 use Rattle.export.specs.Export.{bit, textOf, appointmentsFor, showsUnder}
-use Rattle.export.specs.Totals.{total, total-nil, total-cons, total-keep}
+use Rattle.prelude.specs.Totals.{total, total-keep}
 use Rattle.export.specs.RecordLaws.{sizeOf, GoodBook}
 use Rattle.export.specs.AppointmentLaws.{bit-most, length-for, bytes-for, alarms-for}
 use Rattle.spans.specs.Codes.{Spanned}
 use Rattle.spans.specs.CodeLaws.{facts-known}
 use Rattle.spans.specs.RuleLaws.{rule-falls}
 use Rattle.exporting.specs.Sums.{Sum}
-use Rattle.exporting.specs.Scatter.{someDay}
 use Rattle.exporting.specs.ScatterLaws.{some-yes}
 use Rattle.exporting.specs.Passes.{Counted, Sound, marked, keptIn, weighs, Weighed}
 

@@ -1,9 +1,9 @@
 -- The collecting pass: what it has of the records behind and what is left of those ahead make up the whole book.
 -- Assumes nothing.
 use Prim.Native.Nat.{ℕ, suc, _+_, _*_, _<_, _≤_}
-use mathlib.Core.Path.{_≡_, refl, sym, ap, _∙_}
+use mathlib.Core.Path.{_≡_, sym, ap, _∙_}
 use mathlib.Core.Bool.{Bool, true, false}
-use mathlib.Core.List.{List, [], _∷_, _++_, map}
+use mathlib.Core.List.{List, _∷_, _++_, map}
 use native.Mathlib.Omega.{arith}
 use native.Mathlib.Nat.{zero-add, add-zero}
 use native.Mathlib.Numerals.{add-one}
@@ -11,14 +11,14 @@ use lib.ListN.{length, getD, take, set}
 use Rattle.prelude.specs.Choice.{ifB, is-true, is-false, tested, b-elim}
 use Rattle.prelude.specs.Keep.{keep}
 use Rattle.book.specs.Walk.{nextPlace}
-use Rattle.book.specs.Books.{placesOf, entryAt}
+use Rattle.book.specs.Books.{entryAt}
 use Rattle.book.specs.BookLaws.{Cursor, cursor-first, Ahead, cursor-ahead}
 use Rattle.falls.specs.declared.types.ShortMonth.{ShortMonth}
 use Rattle.pages.specs.Pages.{Numbered, numbered, hours}
 use Rattle.pages.specs.Codes.{code}
 use Rattle.pages.specs.CodeLaws.{push, none-left}
 use Rattle.pages.specs.PageLaws.{numberedAt, numbered-first, recordAt, Turn, turn, turn-yes, turn-no, turn-end}
-use Rattle.export.specs.Totals.{total, total-nil, total-cons}
+use Rattle.prelude.specs.Totals.{total, total-nil, total-cons}
 use Rattle.export.specs.AppointmentLaws.{bit-most}
 use Rattle.spans.specs.Rules.{ruleOf, ruleShows}
 use Rattle.spans.specs.Next.{Next}

@@ -5,7 +5,7 @@ use mathlib.Core.Path.{_≡_, refl, sym, ap, _∙_}
 use mathlib.Core.Bool.{Bool}
 use mathlib.Core.List.{List, map}
 use native.Mathlib.Omega.{arith}
-use lib.ListN.{length, getD, take, length-replicate, getD-replicate}
+use lib.ListN.{length, take, length-replicate, getD-replicate}
 use lib.Seq.{length-take-le, getD-take}
 use Rattle.prelude.specs.Choice.{is-ge, eq-elim}
 use Rattle.prelude.specs.Keep.{keep}

@@ -10,7 +10,7 @@ use lib.ListN.{length, getD}
 use Rattle.prelude.specs.Choice.{ifLt, ifEq, ifB, is-lt, is-ge, is-eq, is-ne, is-true, is-false, tested, lt-elim, eq-elim}
 use Rattle.prelude.specs.Splice.{splice, splice-length, splice-before, splice-drop}
 use Rattle.calendar.specs.File.{Appointment, appointmentBytes, appointmentsBytes}
-use Rattle.export.specs.SizeLaws.{length-appointment}
+use Rattle.calendar.specs.FileLaws.{length-appointment}
 use Rattle.exporting.specs.Sums.{bytesIn, rows, unitsTo, noneYet}
 use Rattle.exporting.specs.Scatter.{Added, scatter}
 use Rattle.exporting.specs.ScatterLaws.{scatter-end, scatter-no, scatter-yes}

@@ -13,7 +13,7 @@ use Rattle.pages.specs.Pages.{Numbered, numbered, hours}
 use Rattle.pages.specs.Codes.{decode}
 use Rattle.calendar.specs.File.{Appointment}
 use Rattle.export.specs.Export.{bit, appointmentOf}
-use Rattle.export.specs.Totals.{total}
+use Rattle.prelude.specs.Totals.{total}
 use Rattle.spans.specs.Rules.{ruleOf, ruleShows}
 use Rattle.exporting.specs.Scatter.{someDay}
 

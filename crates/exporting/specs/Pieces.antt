@@ -1,15 +1,15 @@
 -- The pieces of a Calendar file as they are put, one behind the other.
 -- Assumes nothing.
-use Prim.Native.Nat.{ℕ, suc, _+_, _-_, _*_, _<_, _≤_}
+use Prim.Native.Nat.{ℕ, _+_, _-_, _*_}
 use mathlib.Core.Path.{_≡_, refl, ap, _∙_}
 use mathlib.Core.List.{List, [], _∷_, _++_, append-assoc}
 use native.Mathlib.Omega.{arith}
-use lib.ListN.{length, length-append}
+use lib.ListN.{length}
 use Rattle.prelude.specs.Choice.{is-eq, is-ne}
-use Rattle.prelude.specs.Bytes.{le16, length-le16}
+use Rattle.prelude.specs.Bytes.{le16}
 use Rattle.calendar.specs.File.{Appointment, Day, zeros, units, filled, appointmentBytes, appointmentsBytes, blocks, table, headBytes, firstUnit, fileOf}
 use Rattle.calendar.specs.declared.types.CalendarSettings.{CalendarSettings}
-use Rattle.export.specs.SizeLaws.{length-table}
+use Rattle.calendar.specs.FileLaws.{length-table}
 use Rattle.exporting.specs.Sums.{bytesIn, unitsFor, blockHead, rowOf}
 
 -- the head: its eight bytes and the count, the six settings, the reserved bytes

@@ -2,7 +2,7 @@
 -- Assumes nothing.
 use Prim.Native.Nat.{ℕ, zero, suc, _+_, _-_, _*_, _%_, _<_, _≤_}
 use mathlib.Core.Path.{_≡_, refl, sym, ap, _∙_}
-use mathlib.Core.Bool.{Bool, true}
+use mathlib.Core.Bool.{Bool}
 use mathlib.Core.List.{List, [], _∷_, _++_, map, List·Memᴰ, List·Memᴰ·head, List·Memᴰ·tail}
 use native.Mathlib.Omega.{arith}
 use native.Mathlib.Nat.{zero-add}
@@ -22,10 +22,10 @@ use Rattle.calendar.specs.File.{Appointment, Day, zeros, units, appointmentByte
 use Rattle.calendar.specs.declared.types.CalendarSettings.{CalendarSettings}
 use Rattle.export.specs.Export.{appointmentOf, appointmentsFor, daysWith, showsUnder}
 use Rattle.export.specs.RecordLaws.{GoodBook}
-use Rattle.export.specs.SizeLaws.{length-appointment, length-table}
+use Rattle.calendar.specs.FileLaws.{length-appointment, length-table}
 use Rattle.export.specs.SpanLaws.{days-few}
 use Rattle.spans.specs.Codes.{Spanned, Days}
-use Rattle.exporting.specs.Sums.{bytesIn, Sums, sumTable, rows, unitsTo, noneYet}
+use Rattle.exporting.specs.Sums.{Sums, sumTable, rows, unitsTo, noneYet}
 use Rattle.exporting.specs.Scatter.{Added, Roomy, scatter}
 use Rattle.exporting.specs.Passes.{Counted, Sound, marked, keptIn, Weighed, soFar}
 use Rattle.exporting.specs.RowLaws.{length-more, Fits, length-rows, fits-none}

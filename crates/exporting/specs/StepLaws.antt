@@ -1,8 +1,8 @@
 -- The appointments so far: none at first, one record more, all of the day's in the end, and never more bytes than its sum.
 -- Assumes nothing.
-use Prim.Native.Nat.{ℕ, suc, _+_, _<_, _≤_}
-use mathlib.Core.Path.{_≡_, refl, sym, ap, _∙_}
-use mathlib.Core.Bool.{Bool, true, false}
+use Prim.Native.Nat.{ℕ, _+_, _<_, _≤_}
+use mathlib.Core.Path.{_≡_, sym, ap, _∙_}
+use mathlib.Core.Bool.{Bool}
 use mathlib.Core.List.{List, [], _∷_, _++_, map, map-append, append-nil}
 use native.Mathlib.Omega.{arith}
 use native.Mathlib.Nat.{zero-add}
@@ -12,14 +12,14 @@ use lib.Seq.{take-suc, take-length}
 use Rattle.prelude.specs.Choice.{ifB, is-true, is-false, tested}
 use Rattle.prelude.specs.Keep.{keep, keep-nil, keep-yes, keep-no, keep-append}
 use Rattle.falls.specs.declared.types.ShortMonth.{ShortMonth}
-use Rattle.pages.specs.Pages.{Numbered, numbered, pageOf}
+use Rattle.pages.specs.Pages.{Numbered, pageOf}
 use Rattle.pages.specs.Codes.{code, decode}
 use Rattle.pages.specs.DecodeLaws.{page-decoded}
 use Rattle.calendar.specs.File.{Appointment, appointmentsBytes}
 use Rattle.export.specs.Export.{appointmentOf, appointmentsFor, showsUnder}
 use Rattle.export.specs.RecordLaws.{GoodBook}
 use Rattle.spans.specs.Codes.{Spanned}
-use Rattle.exporting.specs.Sums.{bytesIn, Sum}
+use Rattle.exporting.specs.Sums.{Sum}
 use Rattle.exporting.specs.Passes.{Counted, marked, keptIn, Weighed, soFar}
 use Rattle.exporting.specs.RowLaws.{bytes-append, Fits}
 use Rattle.exporting.specs.BookLaws.{kept-page, same-page, weighed-sum}

@@ -1,23 +1,21 @@
 -- The sums of a span give the measure, the table and the blocks of its days.
 -- Assumes nothing.
-use Prim.Native.Nat.{ℕ, zero, suc, _+_, _-_, _*_, _/_, _%_, _<_, _≤_}
+use Prim.Native.Nat.{ℕ, suc, _+_, _-_, _*_, _<_}
 use mathlib.Core.Path.{_≡_, refl, sym, ap, _∙_}
-use mathlib.Core.Bool.{true, false}
 use mathlib.Core.List.{List, [], _∷_, _++_, append-assoc}
 use native.Mathlib.Omega.{arith}
 use native.Mathlib.Nat.{add-zero, zero-add}
 use native.Mathlib.Numerals.{add-one}
-use lib.ListN.{length, getD, length-append, length-replicate}
-use Rattle.prelude.specs.Choice.{ifLt, ifEq, is-eq, is-ne, eq-elim}
-use Rattle.prelude.specs.Bytes.{le16, length-le16}
-use Rattle.calendar.specs.File.{Appointment, Day, zeros, units, filled, appointmentsBytes, blockBytes, blocks, alarms, descriptorBytes, table, firstUnit, fileOf}
+use lib.ListN.{length, getD}
+use Rattle.prelude.specs.Choice.{is-eq, is-ne, eq-elim}
+use Rattle.calendar.specs.File.{Appointment, Day, zeros, units, filled, appointmentsBytes, blockBytes, blocks, alarms, descriptorBytes, table}
 use Rattle.calendar.specs.declared.types.CalendarSettings.{CalendarSettings}
-use Rattle.export.specs.Export.{dayBefore, daysWith, tooFar}
-use Rattle.export.specs.Totals.{total, total-nil, total-cons}
-use Rattle.export.specs.SizeLaws.{length-block, length-table}
+use Rattle.export.specs.Export.{dayBefore, daysWith}
+use Rattle.prelude.specs.Totals.{total, total-nil, total-cons}
+use Rattle.calendar.specs.FileLaws.{length-block}
 use Rattle.export.specs.MeasureLaws.{unitsOf, file-units, beforeLast, far-last}
 use Rattle.export.specs.SpanLaws.{before-none, before-some, days-none, days-next}
-use Rattle.exporting.specs.Sums.{measureOf, countIn, alarmsIn, bytesIn, Sum, Sums, unitsFor, measured, sumUp, descriptorOf, sumTable, blockHead, rowOf, rows}
+use Rattle.exporting.specs.Sums.{measureOf, countIn, alarmsIn, Sum, Sums, unitsFor, measured, sumUp, descriptorOf, sumTable, blockHead, rowOf, rows}
 use Rattle.exporting.specs.declared.types.Measure.{Measure}
 
 -- the sums by place

@@ -10,7 +10,7 @@ use Rattle.prelude.specs.Bytes.{le16}
 use Rattle.calendar.specs.File.{Appointment, Day, zeros, units, appointmentsBytes, alarms, firstUnit, fileOf}
 use Rattle.calendar.specs.declared.types.CalendarSettings.{CalendarSettings}
 use Rattle.export.specs.Export.{tooFar}
-use Rattle.export.specs.Totals.{total}
+use Rattle.prelude.specs.Totals.{total}
 use Rattle.exporting.specs.declared.types.Measure.{Measure}
 
 -- the measure of a file of days

@@ -1,16 +1,14 @@
 -- One day on: what measuring, the table and the blocks make of the sums from the k-th on.
 -- Assumes nothing.
-use Prim.Native.Nat.{ℕ, suc, _+_, _<_, _≤_}
-use mathlib.Core.Path.{_≡_, refl, ap, _∙_}
+use Prim.Native.Nat.{ℕ, _+_, _<_, _≤_}
+use mathlib.Core.Path.{_≡_}
 use mathlib.Core.List.{List, [], _∷_, _++_}
-use native.Mathlib.Omega.{arith}
 use native.Mathlib.Numerals.{add-one}
 use lib.ListN.{length, getD, drop, drop-of-length-le}
 use lib.Seq.{drop-cons}
 use Rattle.prelude.specs.Choice.{is-eq, is-ne}
 use Rattle.calendar.specs.File.{Appointment}
 use Rattle.exporting.specs.Sums.{countIn, alarmsIn, unitsFor, measured, sumUp, descriptorOf, sumTable, rowOf, rows}
-use Rattle.exporting.specs.declared.types.Measure.{Measure}
 
 module _ (ss : List ℕ) (k : ℕ) where
   -- what is left

@@ -1,6 +1,6 @@
 // The fixed pieces of a Calendar file as arrays of bytes.
 ghost use mathlib.Core.Path.{_≡_};
-ghost use Prim.Native.Nat.{_/_, _%_, _<_};
+ghost use Prim.Native.Nat.{_/_, _%_};
 ghost use Rattle.exporting.specs.Sums.{descriptorOf, blockHead};
 ghost use Rattle.exporting.specs.Pieces.{headMark, settingsWords, appointmentHead};
 use calendar::types::CalendarSettings;

@@ -87,8 +87,46 @@ fn export_days(
     ExportAnswer::Written(m.length)
 }
 
+// The same with short lists, of few days and records.
+fn export_few(
+    file: &[u8],
+    b: Book,
+    first: DayFacts,
+    count: usize,
+    c: ShortMonth,
+    out: &mut [u8],
+) -> ExportAnswer
+    requires { ⌜ bookOf (now file) ≡ BookAnswer.Accepted b ⌝ }
+    requires { ⌜ first ≡ factsOf (first .day .0) ⌝ }
+    requires { ⌜ first .day .0 + count ≤ lastDay + 1 ⌝ }
+    requires { ⌜ count ≤ 32 ⌝ }
+    requires { ⌜ b .records ≤ 64 ⌝ }
+    ensures { λ r.
+        ⌜ r ≡ sized (length (now (out .entry))) (tooFar (exportDays (showsUnder c) (now (file .entry)) (first .day .0) count)) (length (exportFile (showsUnder c) (now (file .entry)) (first .day .0) count)) ⌝ }
+    ensures { λ r.
+        ⌜ now (out .exit) ≡ leaves (exportFile (showsUnder c) (now (file .entry)) (first .day .0) count) (now (out .entry)) r ⌝ }
+{
+    let mut days = [0u32; 32];
+    let mut sums = [0u64; 32];
+    let mut places = [0usize; 32];
+    let mut codes = [0u64; 64];
+    let mut spare = [0u64; 64];
+    export_days(
+        file,
+        b,
+        first,
+        c,
+        &mut days[..count],
+        &mut sums[..count],
+        &mut places[..count],
+        &mut codes,
+        &mut spare,
+        out,
+    )
+}
+
 // The same with lists of its own: a span has at most 366 days, a book at most 4,680 records.
-fn export_span(
+fn export_many(
     file: &[u8],
     b: Book,
     first: DayFacts,
@@ -124,7 +162,33 @@ fn export_span(
     )
 }
 
-fn span_ok(first: u32, count: u32) -> bool
+// A small export clears little working space.
+fn export_span(
+    file: &[u8],
+    b: Book,
+    first: DayFacts,
+    count: usize,
+    c: ShortMonth,
+    out: &mut [u8],
+) -> ExportAnswer
+    requires { ⌜ bookOf (now file) ≡ BookAnswer.Accepted b ⌝ }
+    requires { ⌜ first ≡ factsOf (first .day .0) ⌝ }
+    requires { ⌜ first .day .0 + count ≤ lastDay + 1 ⌝ }
+    requires { ⌜ count ≤ 366 ⌝ }
+    ensures { λ r.
+        ⌜ r ≡ sized (length (now (out .entry))) (tooFar (exportDays (showsUnder c) (now (file .entry)) (first .day .0) count)) (length (exportFile (showsUnder c) (now (file .entry)) (first .day .0) count)) ⌝ }
+    ensures { λ r.
+        ⌜ now (out .exit) ≡ leaves (exportFile (showsUnder c) (now (file .entry)) (first .day .0) count) (now (out .entry)) r ⌝ }
+{
+    if count <= 32 {
+        if b.records <= 64 {
+            return export_few(file, b, first, count, c, out);
+        }
+    }
+    export_many(file, b, first, count, c, out)
+}
+
+fn span_ok(first: u16, count: u16) -> bool
     ensures { λ r. ⌜ r ≡ spanOk first count ⌝ }
 {
     if 43829 < first {
@@ -142,19 +206,19 @@ fn span_ok(first: u32, count: u32) -> bool
 fn export_in(
     file: &[u8],
     b: Book,
-    first: u32,
-    count: u32,
+    first: CalendarDay,
+    count: u16,
     c: ShortMonth,
     out: &mut [u8],
 ) -> ExportAnswer
     requires { ⌜ bookOf (now file) ≡ BookAnswer.Accepted b ⌝ }
     ensures { λ r.
-        ⌜ r ≡ exportFrom (showsUnder c) (now (file .entry)) first count (length (now (out .entry))) (BookAnswer.Accepted b) ⌝ }
+        ⌜ r ≡ exportFrom (showsUnder c) (now (file .entry)) (first .0) count (length (now (out .entry))) (BookAnswer.Accepted b) ⌝ }
     ensures { λ r.
-        ⌜ now (out .exit) ≡ leaves (exportFile (showsUnder c) (now (file .entry)) first count) (now (out .entry)) r ⌝ }
+        ⌜ now (out .exit) ≡ leaves (exportFile (showsUnder c) (now (file .entry)) (first .0) count) (now (out .entry)) r ⌝ }
 {
-    if span_ok(first, count) {
-        let a = facts_of_day(CalendarDay(first as u16));
+    if span_ok(first.0, count) {
+        let a = facts_of_day(first);
         match a {
             FactsAnswer::Facts(f) => export_span(file, b, f, count as usize, c, out),
             FactsAnswer::Refused(e) => ExportAnswer::Refused(e),
@@ -165,13 +229,19 @@ fn export_in(
 }
 
 // The export of count days from the first on into the buffer, from its start on.
-pub fn export(file: &[u8], first: u32, count: u32, c: ShortMonth, out: &mut [u8]) -> ExportAnswer
+pub fn export(
+    file: &[u8],
+    first: CalendarDay,
+    count: u16,
+    c: ShortMonth,
+    out: &mut [u8],
+) -> ExportAnswer
     ensures { λ r.
-        ⌜ r ≡ exportAnswer (showsUnder c) (now (file .entry)) first count (length (now (out .entry))) ⌝ }
+        ⌜ r ≡ exportAnswer (showsUnder c) (now (file .entry)) (first .0) count (length (now (out .entry))) ⌝ }
     ensures { λ _.
-        ⌜ now (out .exit) ≡ exportLeaves (showsUnder c) (now (file .entry)) first count (now (out .entry)) ⌝ }
+        ⌜ now (out .exit) ≡ exportLeaves (showsUnder c) (now (file .entry)) (first .0) count (now (out .entry)) ⌝ }
     ensures { λ r.
-        ⌜ Demand3 (showsUnder c) (now (file .entry)) first count (now (out .entry)) r (now (out .exit)) ⌝ }
+        ⌜ Demand3 (showsUnder c) (now (file .entry)) (first .0) count (now (out .entry)) r (now (out .exit)) ⌝ }
 {
     let a = read_book(file);
     match a {

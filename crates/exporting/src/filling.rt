@@ -1,7 +1,6 @@
 // Filling the blocks of a span: first each block with its appointments left zero, then record by record each appointment on its days.
 ghost use mathlib.Core.Path.{_≡_};
-ghost use mathlib.Core.List.{map};
-ghost use Prim.Native.Nat.{_+_, _*_, _%_, _<_, _≤_};
+ghost use Prim.Native.Nat.{_+_, _%_, _<_, _≤_};
 ghost use lib.ListN.{length, getD};
 ghost use Rattle.prelude.specs.Splice.{splice};
 ghost use Rattle.pages.specs.Codes.{decode};

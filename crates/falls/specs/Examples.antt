@@ -9,7 +9,7 @@ use Rattle.days.specs.declared.types.Date.{Date}
 use Rattle.days.specs.declared.types.DayFacts.{DayFacts}
 use Rattle.records.specs.declared.types.Repeat.{Repeat}
 use Rattle.records.specs.declared.types.Record.{Record}
-use Rattle.falls.specs.Falls.{inSpan, byPositionFalls, onMissingDay, onDay, byDateFalls, yearlyFalls, falls}
+use Rattle.falls.specs.Falls.{inSpan, byPositionFalls, onMissingDay, onDay, byDateFalls, falls}
 use Rattle.falls.specs.declared.types.ShortMonth.{ShortMonth}
 
 abbrev on : ℕ → ℕ → ℕ → Date

@@ -4,7 +4,6 @@ use Prim.Native.Nat.{ℕ, _+_, _-_, _/_}
 use mathlib.Core.Bool.{Bool, true, false}
 use Rattle.prelude.specs.Choice.{ifLt, ifEq, ifB}
 use Rattle.days.specs.Dates.{before}
-use Rattle.days.specs.declared.types.Date.{Date}
 use Rattle.days.specs.declared.types.DayFacts.{DayFacts}
 use Rattle.records.specs.declared.types.Dated.{Dated}
 use Rattle.records.specs.declared.types.Repeat.{Repeat}

@@ -2,16 +2,16 @@
 -- Assumes nothing.
 use Prim.Native.Nat.{ℕ}
 use mathlib.Core.Path.{_≡_, refl}
-use mathlib.Core.Bool.{Bool, false}
+use mathlib.Core.Bool.{false}
 use mathlib.Core.List.{List}
+use Rattle.prelude.specs.Bytes.{wordHigh}
 use Rattle.prelude.specs.Choice.{ifEq, is-eq, is-ne, eq-elim}
 use Rattle.days.specs.declared.types.DayFacts.{DayFacts}
-use Rattle.records.specs.Fields.{datedOf, weeklyOf, monthlyByDateOf, monthlyByPositionOf, yearlyOf, toDoOf, recordOf}
+use Rattle.records.specs.Fields.{datedOf, repeatOf, weeklyOf, monthlyByDateOf, monthlyByPositionOf, yearlyOf, toDoOf, recordOf}
 use Rattle.records.specs.declared.types.Record.{Record}
 use Rattle.falls.specs.Falls.{datedFalls, weeklyFalls, byDateFalls, byPositionFalls, yearlyFalls, falls}
 use Rattle.falls.specs.Times.{datedTimes, repeatTimes, timesOf}
 use Rattle.falls.specs.declared.types.ShortMonth.{ShortMonth}
-use Rattle.falls.specs.declared.types.Times.{Times}
 
 -- A function of a choice is the choice of its values.
 eq-map : {X Y : Type 0} (h : X → Y) (a b : ℕ) (x y : X) {u v : Y} → h x ≡ u → h y ≡ v → h (ifEq a b x y) ≡ ifEq a b u v
@@ -36,3 +36,9 @@ pub times-type :
     → timesOf (recordOf t p) ≡ ifEq t 1 (datedTimes (datedOf p)) (ifEq t 2 (repeatTimes (weeklyOf p .repeat)) (ifEq t 3 (repeatTimes (monthlyByDateOf p .repeat)) (ifEq t 4 (repeatTimes (monthlyByPositionOf p .repeat)) (ifEq t 5 (repeatTimes (yearlyOf p .repeat)) (record { start = record { 0 = 0 }; end = record { 0 = 0 }; alarm = false })))))
 unfolding timesOf
 times-type t p = by-type timesOf t p
+
+pub start-type :
+    (t : ℕ) (p : List ℕ)
+    → timesOf (recordOf t p) .start .0 ≡ ifEq t 1 (wordHigh p 4) (ifEq t 2 (wordHigh p 2) (ifEq t 3 (wordHigh p 2) (ifEq t 4 (wordHigh p 3) (ifEq t 5 (wordHigh p 3) 0))))
+unfolding timesOf datedOf weeklyOf monthlyByDateOf monthlyByPositionOf yearlyOf repeatOf
+start-type t p = by-type (λ r. timesOf r .start .0) t p

@@ -2,4 +2,5 @@
 pub mod Falls
 pub mod Times
 pub mod FallsLaws
+pub mod Agrees
 pub mod Examples

@@ -1,6 +1,5 @@
 -- A record's start minute, end minute and alarm mark, document 01 "The book"; a to-do has none.
 -- Assumes nothing.
-use Prim.Native.Nat.{ℕ}
 use mathlib.Core.Bool.{false}
 use Rattle.records.specs.declared.types.Dated.{Dated}
 use Rattle.records.specs.declared.types.Repeat.{Repeat}

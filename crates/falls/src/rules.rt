@@ -4,10 +4,13 @@ ghost use Prim.Native.Nat.{_+_, _-_, _/_};
 ghost use mathlib.Core.Bool.{true, false};
 ghost use Rattle.prelude.specs.Choice.{ifEq};
 ghost use Rattle.records.specs.Fields.{recordOf};
+ghost use Rattle.prelude.specs.Bytes.{byte as byteOf};
+ghost use Rattle.falls.specs.Agrees.{agrees as agreesOf};
 ghost use Rattle.falls.specs.Falls.{datedFalls, inSpan, weeklyFalls, byPositionFalls, onMissingDay, onDay, byDateFalls, yearlyFalls, falls};
 use crate::types::ShortMonth;
 use days::dates::before;
 use days::types::DayFacts;
+use prelude::slices::byte;
 use records::fields::dated_of;
 use records::fields::monthly_by_date_of;
 use records::fields::monthly_by_position_of;
@@ -145,6 +148,45 @@ pub fn falls_on(c: ShortMonth, f: DayFacts, t: u8, p: &[u8]) -> bool
     }
     if t == 5 {
         return yearly_falls(c, f, yearly_of(p));
+    }
+    false
+}
+
+// A byte of a body, as a wider number.
+fn field(p: &[u8], i: usize) -> u16
+    ensures { λ r. ⌜ r ≡ byteOf (now (p .entry)) i ⌝ }
+{
+    byte(p, i) as u16
+}
+
+// Whether the byte agrees on which most days fail.
+fn agrees(c: ShortMonth, f: DayFacts, t: u8, p: &[u8]) -> bool
+    ensures { λ r. ⌜ r ≡ agreesOf c f t (now (p .entry)) ⌝ }
+{
+    if t == 1 {
+        return is_same(f.date.day, field(p, 3));
+    }
+    if t == 2 {
+        return is_same(f.weekday, field(p, 1));
+    }
+    if t == 3 {
+        return on_day(c, f, field(p, 1));
+    }
+    if t == 4 {
+        return is_same(f.weekday, field(p, 2));
+    }
+    if t == 5 {
+        return is_same(f.date.month, field(p, 1));
+    }
+    false
+}
+
+// As `falls_on`, for one who asks often: the body is read whole only where that byte agrees.
+pub fn falls_quickly(c: ShortMonth, f: DayFacts, t: u8, p: &[u8]) -> bool
+    ensures { λ r. ⌜ r ≡ falls c f (recordOf t (now (p .entry))) ⌝ }
+{
+    if agrees(c, f, t, p) {
+        return falls_on(c, f, t, p);
     }
     false
 }

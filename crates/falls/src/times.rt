@@ -4,6 +4,7 @@ ghost use Rattle.records.specs.Fields.{recordOf};
 ghost use Rattle.falls.specs.Times.{datedTimes, repeatTimes, timesOf};
 use crate::types::Times;
 use days::types::Minute;
+use prelude::slices::word_high;
 use records::fields::dated_of;
 use records::fields::monthly_by_date_of;
 use records::fields::monthly_by_position_of;
@@ -60,4 +61,26 @@ pub fn times_of(t: u8, p: &[u8]) -> Times
         end: Minute(0),
         alarm: false,
     }
+}
+
+// The start minute alone.
+pub fn start_of(t: u8, p: &[u8]) -> u16
+    ensures { λ r. ⌜ r ≡ timesOf (recordOf t (now (p .entry))) .start .0 ⌝ }
+{
+    if t == 1 {
+        return word_high(p, 4);
+    }
+    if t == 2 {
+        return word_high(p, 2);
+    }
+    if t == 3 {
+        return word_high(p, 2);
+    }
+    if t == 4 {
+        return word_high(p, 3);
+    }
+    if t == 5 {
+        return word_high(p, 3);
+    }
+    0
 }

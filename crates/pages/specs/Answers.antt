@@ -11,9 +11,8 @@ use Rattle.days.specs.Facts.{factsOf}
 use Rattle.days.specs.declared.types.CalendarDay.{CalendarDay}
 use Rattle.book.specs.Books.{bookOf}
 use Rattle.book.specs.declared.types.BookAnswer.{BookAnswer}
-use Rattle.falls.specs.Falls.{falls}
 use Rattle.falls.specs.declared.types.ShortMonth.{ShortMonth}
-use Rattle.pages.specs.Pages.{Numbered, numbered, fallsOn, pageOn, lineOf, nth}
+use Rattle.pages.specs.Pages.{numbered, fallsOn, pageOn, lineOf, nth}
 use Rattle.pages.specs.Next.{nextOf}
 use Rattle.pages.specs.declared.types.Ready.{Ready}
 use Rattle.pages.specs.declared.types.Asked.{Asked}

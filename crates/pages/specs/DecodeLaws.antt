@@ -1,14 +1,14 @@
 -- A page is what its codes decode to.
 -- Assumes nothing.
-use Prim.Native.Nat.{ℕ, zero, suc, _+_, _*_, _/_, _%_, _<_, _≤_}
+use Prim.Native.Nat.{ℕ, suc, _+_, _/_, _%_, _<_, _≤_}
 use mathlib.Core.Path.{_≡_, refl, sym, _∙_, ap}
 use mathlib.Core.Bool.{Bool}
 use mathlib.Core.Logic.{⊎-elim}
 use mathlib.Core.List.{List, [], _∷_, map, List·Memᴰ, List·Memᴰ·head, List·Memᴰ·tail, List·Memᴰ·cases-cons, List·Memᴰ·not-nil}
 use native.Mathlib.Omega.{arith}
-use native.Mathlib.Nat.{add-zero, zero-add}
+use native.Mathlib.Nat.{add-zero}
 use lib.ListN.{length, getD}
-use Rattle.prelude.specs.Keep.{keep, keep-member}
+use Rattle.prelude.specs.Keep.{keep-member}
 use Rattle.prelude.specs.Order.{sort-member}
 use Rattle.book.specs.Books.{entryAt, placesOf, entriesOf}
 use Rattle.book.specs.BookLaws.{Ahead, cursor-ahead}

@@ -9,4 +9,5 @@ pub mod CodeLaws
 pub mod DecodeLaws
 pub mod NthLaws
 pub mod NextLaws
+pub mod SearchLaws
 pub mod SetP

@@ -1,13 +1,14 @@
 -- Laws of the search: its turns, and what its answers say.
 -- Assumes nothing.
 use Prim.Native.Nat.{ℕ, zero, suc, _+_, _-_, _<_, _≤_}
-use mathlib.Core.Path.{_≡_, refl, sym, _∙_, ap}
+use mathlib.Core.Path.{_≡_, refl, _∙_, ap}
 use mathlib.Core.Bool.{Bool, true, false}
 use native.Mathlib.Omega.{arith}
-use Rattle.prelude.specs.Choice.{is-true, is-false, b-elim, lt-elim}
+use native.Mathlib.Nat.{add-zero}
+use Rattle.prelude.specs.Choice.{ifLt, is-true, is-false, b-elim, lt-elim}
 use Rattle.days.specs.Days.{lastDay}
+use Rattle.spans.specs.Next.{Next}
 use Rattle.pages.specs.Next.{foundOn, noneFrom, firstOf, nextOf}
-use Rattle.pages.specs.declared.types.Occurrence.{Occurrence}
 use Rattle.pages.specs.declared.types.NextAnswer.{NextAnswer}
 
 module _ (p : ℕ → Bool) (asked : ℕ) where
@@ -22,13 +23,30 @@ module _ (p : ℕ → Bool) (asked : ℕ) where
   unfolding firstOf
   from-found d h e = turn d h ∙ is-true e _ _
 
-  pub from-next : (d : ℕ) → d < lastDay → p d ≡ false → from d ≡ from (suc d)
+  pub from-next : (d : ℕ) → d ≤ lastDay → p d ≡ false → from d ≡ from (suc d)
   unfolding firstOf
-  from-next d h e = turn d (omega arith) ∙ is-false e _ _ ∙ let k : lastDay - d ≡ lastDay + 1 - suc d = omega arith in rw k
+  from-next d h e = turn d h ∙ is-false e _ _ ∙ let k : lastDay - d ≡ lastDay + 1 - suc d = omega arith in rw k
 
-  pub from-none : p lastDay ≡ false → from lastDay ≡ noneFrom asked
+  -- past days that fail
+  from-past : (k d : ℕ) → d + k ≤ lastDay + 1 → ((b : ℕ) → d ≤ b → b < d + k → p b ≡ false) → from d ≡ from (d + k)
+  from-past zero d h z = rw (add-zero d)
+  from-past (suc k) d h z =
+      let e : suc d + k ≡ d + suc k = omega arith in
+      from-next d (omega arith) (z d (omega arith) (omega arith)) ∙ from-past k (suc d) (omega arith) (λ b l m. z b (omega arith) (omega arith)) ∙ ap from e
+
+  from-end : from (lastDay + 1) ≡ noneFrom asked
   unfolding firstOf
-  from-none e = turn lastDay (omega arith) ∙ is-false e _ _
+  from-end = refl
+
+  -- the search by the first day that passes, however it was found
+  pub next-is : {n : ℕ} → asked ≤ lastDay → Next p asked (lastDay + 1) n → nextOf p asked ≡ ifLt n (lastDay + 1) (foundOn asked n) (noneFrom asked)
+  unfolding nextOf
+  next-is {n} h x =
+      let low = x .low in
+      let high = x .high in
+      let e : asked + (n - asked) ≡ n = omega arith in
+      from-past (n - asked) asked (omega arith) (λ b l m. x .none b l (omega arith)) ∙ ap from e
+      ∙ lt-elim (λ z. from n ≡ z) n (lastDay + 1) _ _ (λ l. from-found n (omega arith) (x .hit l)) (λ g. let q : n ≡ lastDay + 1 = omega arith in ap from q ∙ from-end)
 
 -- what the answers say, for any test of days
 pub record FirstDay (p : ℕ → Bool) (asked found : ℕ) : Type 0 where

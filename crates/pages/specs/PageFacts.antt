@@ -1,19 +1,18 @@
 -- What a page is, as a reader would say it: each record that passes stands in it once, nothing else does; minutes rise; equal minutes keep the book's order.
 -- Assumes nothing.
-use Prim.Native.Nat.{ℕ, zero, suc, _+_, _<_, _≤_}
+use Prim.Native.Nat.{ℕ, zero, suc, _+_, _<_}
 use mathlib.Core.Path.{_≡_, refl, sym, _∙_, ap}
-use mathlib.Core.Bool.{Bool, true, false}
+use mathlib.Core.Bool.{Bool, true}
 use mathlib.Core.List.{List, [], _∷_, map, List·Memᴰ}
 use native.Mathlib.Omega.{arith}
 use native.Mathlib.Nat.{zero-add}
-use borrow.Author.Tests.{eqb-true, eq-eqb, ne-eqb}
+use borrow.Author.Tests.{eq-eqb, ne-eqb}
 use lib.Dec.{eqb}
 use lib.ListN.{length, getD}
 use Rattle.prelude.specs.Choice.{ifB, is-true, is-false, tested}
 use Rattle.prelude.specs.Keep.{keep, keep-nil, keep-yes, keep-no, keep-member, member-keep, keep-keep-comm}
 use Rattle.prelude.specs.Order.{sort, Sorted, sorted, stable, sort-nil, sort-cons, insert-nil, keep-sort, sort-member, member-sort}
 use Rattle.book.specs.Books.{entryAt, placesOf, entriesOf}
-use Rattle.book.specs.declared.types.Entry.{Entry}
 use Rattle.pages.specs.Pages.{Numbered, numberedFrom, numbered, startOf, pageOf}
 use Rattle.pages.specs.PageLaws.{recordAt}
 

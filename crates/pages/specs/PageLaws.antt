@@ -16,7 +16,6 @@ use Rattle.days.specs.Facts.{factsOf}
 use Rattle.days.specs.Answers.{factsAnswer}
 use Rattle.days.specs.declared.answers.FactsAnswer.{FactsAnswer}
 use Rattle.days.specs.declared.types.CalendarDay.{CalendarDay}
-use Rattle.days.specs.declared.types.DayFacts.{DayFacts}
 use Rattle.book.specs.Books.{bookOf, entryAt, placesOf, entriesOf}
 use Rattle.book.specs.Walk.{nextPlace}
 use Rattle.book.specs.BookLaws.{AcceptedBook, book-accepted, Cursor, Ahead, cursor-ahead}

@@ -21,8 +21,9 @@ use Rattle.records.specs.declared.types.Repeat.{Repeat}
 use Rattle.records.specs.declared.types.Record.{Record}
 use Rattle.falls.specs.Falls.{inSpan, weeklyFalls, byPositionFalls, onMissingDay, onDay, byDateFalls, yearlyFalls, falls}
 use Rattle.falls.specs.declared.types.ShortMonth.{ShortMonth}
-use Rattle.pages.specs.Next.{foundOn, nextOf}
+use Rattle.pages.specs.Next.{nextOf}
 use Rattle.pages.specs.NextLaws.{from-next, from-found}
+use Rattle.pages.specs.declared.types.NextAnswer.{NextAnswer}
 
 abbrev on : ℕ → ℕ → ℕ → Date
 on y m d = record { year = y; month = m; day = d }
@@ -46,14 +47,15 @@ pub data Fact : Type 0 where
   -- on which days of a month a record falls
   fallsIn : ShortMonth → Record → ℕ → ℕ → List ℕ → Fact
   -- asked for a record and a day: the next day and the days looked at
-  nextIs : Record → ℕ → ℕ → Fact
+  nextIs : Record → ℕ → ℕ → ℕ → Fact
 
 abbrev pub Holds : Fact → Type 0
 Holds (dateIs d n) = dayAnswer d ≡ DayAnswer.Day (record { 0 = n })
 Holds (noDate d) = dayAnswer d ≡ DayAnswer.Refused (refusal outOfRange)
 Holds (weekdayIs n w) = weekdayOf n ≡ w
 Holds (fallsIn c r y m ds) = keep (λ d. falls c (factsOf d) r) (daysOf y m) ≡ ds
-Holds (nextIs r asked found) = nextOf (λ d. falls ShortMonth.Skip (factsOf d) r) asked ≡ foundOn asked found
+Holds (nextIs r asked found looked) =
+    nextOf (λ d. falls ShortMonth.Skip (factsOf d) r) asked ≡ NextAnswer.Found (record { day = record { 0 = found }; looked = looked })
 
 abbrev pub All : List Fact → Type 0
 All [] = Unit {0}
@@ -99,7 +101,7 @@ facts =
     ∷ fallsIn ShortMonth.Skip (monthly 31) 1993 4 []
     ∷ fallsIn ShortMonth.Last (monthly 31) 1993 4 (4868 ∷ [])
     ∷ fallsIn ShortMonth.Last (yearly 2 29) 1993 2 (4807 ∷ [])
-    ∷ nextIs (weekly 3) 4822 4823
+    ∷ nextIs (weekly 3) 4822 4823 2
     ∷ []
 
 -- a day's facts by its date

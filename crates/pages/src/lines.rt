@@ -1,5 +1,7 @@
 // A day's page: how many lines it has, and the line at a place.
 ghost use mathlib.Core.Path.{_≡_};
+ghost use Prim.Native.Nat.{_≤_};
+ghost use lib.ListN.{length};
 ghost use Rattle.pages.specs.Answers.{asked, countIn, lineIn, lineText};
 ghost use Rattle.pages.specs.PageLaws.{ReadyBook};
 use crate::asking::ask;
@@ -27,13 +29,20 @@ pub fn page_lines(file: &[u8], n: CalendarDay, c: ShortMonth) -> CountAnswer
     }
 }
 
-fn line_in(file: &[u8], c: ShortMonth, k: usize, a: Ready) -> LineAnswer
+fn line_with(
+    file: &[u8],
+    c: ShortMonth,
+    k: usize,
+    a: Ready,
+    codes: &mut [u64],
+    spare: &mut [u64],
+) -> LineAnswer
     requires { ⌜ ReadyBook (now file) a ⌝ }
+    requires { ⌜ a .records ≤ length (now codes) ⌝ }
+    requires { ⌜ length (now codes) ≤ length (now spare) ⌝ }
     ensures { λ r. ⌜ r ≡ lineIn (now (file .entry)) c k (Asked.Ready a) ⌝ }
 {
-    let mut codes = [0u64; 4680];
-    let mut spare = [0u64; 4680];
-    let n = page_codes(file, c, a, &mut codes, &mut spare);
+    let n = page_codes(file, c, a, codes, spare);
     if k < n {
         return LineAnswer::Line(line_of(file, codes[k]));
     }
@@ -41,6 +50,21 @@ fn line_in(file: &[u8], c: ShortMonth, k: usize, a: Ready) -> LineAnswer
         number: NO_SUCH_NUMBER,
         place: 0,
     })
+}
+
+// A book of few records needs little working space.
+fn line_in(file: &[u8], c: ShortMonth, k: usize, a: Ready) -> LineAnswer
+    requires { ⌜ ReadyBook (now file) a ⌝ }
+    ensures { λ r. ⌜ r ≡ lineIn (now (file .entry)) c k (Asked.Ready a) ⌝ }
+{
+    if a.records <= 64 {
+        let mut codes = [0u64; 64];
+        let mut spare = [0u64; 64];
+        return line_with(file, c, k, a, &mut codes, &mut spare);
+    }
+    let mut codes = [0u64; 4680];
+    let mut spare = [0u64; 4680];
+    line_with(file, c, k, a, &mut codes, &mut spare)
 }
 
 // The line at a place of a day's page.

@@ -1,22 +1,24 @@
 // One record asked alone: whether it falls on a day, and when it falls next.
 ghost use mathlib.Core.Path.{_≡_};
-ghost use Prim.Native.Nat.{_≤_};
-ghost use Rattle.days.specs.Days.{lastDay};
+ghost use mathlib.Core.Bool.{true};
 ghost use Rattle.days.specs.Facts.{factsOf};
 ghost use Rattle.records.specs.Fields.{recordOf};
+ghost use Rattle.records.specs.Ranges.{recordOk};
+ghost use Rattle.book.specs.Books.{entryAt};
+ghost use Rattle.book.specs.WalkLaws.{RecordAt};
 ghost use Rattle.falls.specs.Falls.{falls};
+ghost use Rattle.spans.specs.MoveLaws.{FactsAt};
 ghost use Rattle.pages.specs.Answers.{asked, fallsIn, nextIn};
 ghost use Rattle.pages.specs.Next.{nextOf};
 ghost use Rattle.pages.specs.PageLaws.{ReadyBook};
 use crate::asking::ask;
-use crate::collecting::falls_at;
+use crate::collecting::body_at;
 use crate::types::Asked;
 use crate::types::FallsAnswer;
 use crate::types::NextAnswer;
 use crate::types::Occurrence;
 use crate::types::Ready;
 use book::entries::place_of;
-use days::facts::next_facts;
 use days::types::CalendarDay;
 use days::types::DayFacts;
 use falls::rules::falls_on;
@@ -26,6 +28,16 @@ use prelude::refusals::Refusal;
 use prelude::slices::byte;
 use prelude::slices::part;
 use prelude::slices::word;
+use spans::finding::next_shown;
+use spans::reading::rule_of;
+
+// Whether the record at a place of an accepted book falls on a day, asked once.
+fn falls_there(file: &[u8], at: usize, c: ShortMonth, f: DayFacts) -> bool
+    requires { ⌜ RecordAt (now file) at ⌝ }
+    ensures { λ r. ⌜ r ≡ falls c f (entryAt (now (file .entry)) at .«record») ⌝ }
+{
+    falls_on(c, f, file[at], body_at(file, at))
+}
 
 fn falls_in(file: &[u8], c: ShortMonth, k: usize, a: Ready) -> FallsAnswer
     requires { ⌜ ReadyBook (now file) a ⌝ }
@@ -34,7 +46,7 @@ fn falls_in(file: &[u8], c: ShortMonth, k: usize, a: Ready) -> FallsAnswer
     if k < a.records {
         let at = place_of(file, k);
         let f = a.facts;
-        return FallsAnswer::Falls(falls_at(file, at, c, f));
+        return FallsAnswer::Falls(falls_there(file, at, c, f));
     }
     FallsAnswer::Refused(Refusal {
         number: NO_SUCH_NUMBER,
@@ -55,25 +67,20 @@ pub fn record_falls(file: &[u8], k: usize, n: CalendarDay, c: ShortMonth) -> Fal
 
 // The first day from the given one on, on which the record of that type and body falls.
 fn search_on(t: u8, p: &[u8], c: ShortMonth, from: DayFacts) -> NextAnswer
-    requires { ⌜ from .day .0 ≤ lastDay ⌝ }
-    requires { ⌜ from ≡ factsOf (from .day .0) ⌝ }
+    requires { ⌜ FactsAt from (from .day .0) ⌝ }
+    requires { ⌜ recordOk (recordOf t (now p)) ≡ true ⌝ }
     ensures { λ r. ⌜ r ≡ nextOf (λ d. falls c (factsOf d) (recordOf t (now (p .entry)))) (from .day .0) ⌝ }
 {
-    let first = from.day.0;
-    let mut f = from;
-    loop {
-        let day = f.day.0;
-        if falls_on(c, f, t, p) {
-            return NextAnswer::Found(Occurrence {
-                day: CalendarDay(day),
-                looked: (day - first) as u32 + 1,
-            });
-        }
-        if day == 43829 {
-            return NextAnswer::NoneLeft(43830 - first as u32);
-        }
-        f = next_facts(f);
+    let first = from.day.0 as u32;
+    let rule = rule_of(t, p);
+    let day = next_shown(c, rule, from);
+    if day < 43830 {
+        return NextAnswer::Found(Occurrence {
+            day: CalendarDay(day as u16),
+            looked: day - first + 1,
+        });
     }
+    NextAnswer::NoneLeft(43830 - first)
 }
 
 fn next_in(file: &[u8], c: ShortMonth, k: usize, a: Ready) -> NextAnswer

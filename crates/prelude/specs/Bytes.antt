@@ -41,17 +41,9 @@ pub length-le16 : (n : ℕ) → length (le16 n) ≡ 2
 unfolding le16
 length-le16 n = refl
 
-pub length-be16 : (n : ℕ) → length (be16 n) ≡ 2
-unfolding be16
-length-be16 n = refl
-
 pub le16-bytes : (n : ℕ) → Bytes (le16 n)
 unfolding le16
 le16-bytes n = (omega arith, (omega arith, tt))
-
-pub be16-bytes : (n : ℕ) → Bytes (be16 n)
-unfolding be16
-be16-bytes n = (omega arith, (omega arith, tt))
 
 -- What was written is read back.
 pub word-le16 : (n : ℕ) (r : List ℕ) → n < 65536 → word (le16 n ++ r) 0 ≡ n
@@ -101,15 +93,6 @@ moved h s t a e i = rw (add-assoc a i 1, e i, e (i + 1))
 
 pub word-drop : (s : List ℕ) (a i : ℕ) → word (drop a s) i ≡ word s (a + i)
 word-drop s a i = sym (moved (λ x y. x + 256 * y) s (drop a s) a (λ k. sym (byte-drop s a k)) i)
-
-pub word-high-drop : (s : List ℕ) (a i : ℕ) → wordHigh (drop a s) i ≡ wordHigh s (a + i)
-word-high-drop s a i = sym (moved (λ x y. 256 * x + y) s (drop a s) a (λ k. sym (byte-drop s a k)) i)
-
-pub word-append : (xs ys : List ℕ) (i : ℕ) → word (xs ++ ys) (length xs + i) ≡ word ys i
-word-append xs ys i = moved (λ x y. x + 256 * y) (xs ++ ys) ys (length xs) (byte-append xs ys) i
-
-pub word-high-append : (xs ys : List ℕ) (i : ℕ) → wordHigh (xs ++ ys) (length xs + i) ≡ wordHigh ys i
-word-high-append xs ys i = moved (λ x y. 256 * x + y) (xs ++ ys) ys (length xs) (byte-append xs ys) i
 
 -- `Bytes`, by places and of two lists.
 pub bytes-at : (s : List ℕ) → Bytes s → (i : ℕ) → byte s i < 256

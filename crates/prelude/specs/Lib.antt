@@ -6,3 +6,4 @@ pub mod Splice
 pub mod Grown
 pub mod Keep
 pub mod Order
+pub mod Totals

@@ -17,13 +17,17 @@ lengthIn f c (Asked.Ready a) = CountAnswer.Count (length (pageText f c (a .facts
 lengthIn f c (Asked.Refused e) = CountAnswer.Refused e
 
 -- "12: lent buffer shorter than the .. list to be written"; else how many bytes were written
-unfoldable pub printIn : List ℕ → ShortMonth → ℕ → Asked → CountAnswer
-printIn f c room (Asked.Ready a) =
-    ifLt room (length (pageText f c (a .facts))) (CountAnswer.Refused (refusal noRoom)) (CountAnswer.Count (length (pageText f c (a .facts))))
-printIn f c room (Asked.Refused e) = CountAnswer.Refused e
+abbrev pub textGives : ℕ → List ℕ → CountAnswer
+textGives room text = ifLt room (length text) (CountAnswer.Refused (refusal noRoom)) (CountAnswer.Count (length text))
 
 -- "No lent byte changes. After success, bytes past the written length are as before."
+abbrev pub textLeaves : List ℕ → List ℕ → List ℕ
+textLeaves out text = ifLt (length out) (length text) out (splice out 0 text)
+
+unfoldable pub printIn : List ℕ → ShortMonth → ℕ → Asked → CountAnswer
+printIn f c room (Asked.Ready a) = textGives room (pageText f c (a .facts))
+printIn f c room (Asked.Refused e) = CountAnswer.Refused e
+
 unfoldable pub printLeaves : List ℕ → ShortMonth → List ℕ → Asked → List ℕ
-printLeaves f c out (Asked.Ready a) =
-    ifLt (length out) (length (pageText f c (a .facts))) out (splice out 0 (pageText f c (a .facts)))
+printLeaves f c out (Asked.Ready a) = textLeaves out (pageText f c (a .facts))
 printLeaves f c out (Asked.Refused e) = out

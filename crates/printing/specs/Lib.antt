@@ -1,7 +1,6 @@
 -- The printed page: how it looks, what the calls give, and its laws.
 pub mod Printed
 pub mod Answers
-pub mod Totals
 pub mod PrintedLaws
 pub mod SizeLaws
 pub mod Examples

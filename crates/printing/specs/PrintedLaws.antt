@@ -1,15 +1,16 @@
 -- Laws of the printed page: how long its lines are, and the lines one by one as codes give them.
 -- Assumes nothing.
-use Prim.Native.Nat.{ℕ, _+_, _<_, _≤_}
+use Prim.Native.Nat.{ℕ, _+_, _%_, _<_, _≤_}
 use mathlib.Core.Path.{_≡_, refl, sym, _∙_, ap}
 use mathlib.Core.List.{List, [], _∷_, _++_, map}
 use native.Mathlib.Omega.{arith}
 use native.Mathlib.Numerals.{add-one}
 use lib.ListN.{length, getD, take, drop, length-append, length-map, drop-of-length-le}
-use lib.Seq.{drop-cons, length-take-le}
+use lib.Seq.{drop-cons}
 use Rattle.prelude.specs.Choice.{eq-elim}
 use Rattle.days.specs.declared.types.Date.{Date}
 use Rattle.days.specs.declared.types.DayFacts.{DayFacts}
+use Rattle.book.specs.Books.{entryAt}
 use Rattle.digits.specs.Digits.{two, four, decimal}
 use Rattle.falls.specs.declared.types.ShortMonth.{ShortMonth}
 use Rattle.pages.specs.Pages.{Numbered, fallsOn, pageOn, lineOf}
@@ -19,7 +20,7 @@ use Rattle.pages.specs.DecodeLaws.{page-decoded}
 use Rattle.pages.specs.declared.types.Ready.{Ready}
 use Rattle.pages.specs.declared.types.Line.{Line}
 use Rattle.printing.specs.Printed.{dateText, weekdayName, headLine, clock, stretch, pageLine, pageLines, printed, pageText}
-use Rattle.printing.specs.Totals.{total}
+use Rattle.prelude.specs.Totals.{total}
 
 length-date : (d : Date) → length (dateText d) ≡ 10
 unfolding dateText two four
@@ -81,12 +82,36 @@ pub lines-end : (f codes : List ℕ) (i : ℕ) → length codes ≤ i → pageLi
 unfolding pageLines
 lines-end f codes i h = rw (drop-of-length-le codes h)
 
+-- one line's bytes on
+pub lines-on :
+    (f codes : List ℕ) (i bytes : ℕ) → i < length codes
+    → length (pageLines f (linesOf f codes)) ≡ bytes + length (pageLines f (linesOf f (drop i codes)))
+    → length (pageLines f (linesOf f codes)) ≡ bytes + (13 + length (stretch f (entryAt f (getD codes i 0 % 65536) .text))) + length (pageLines f (linesOf f (drop (i + 1) codes)))
+unfolding lineOf decode
+lines-on f codes i bytes h e =
+    let l = length-line f (lineOf (decode f (getD codes i 0))) in
+    let n = ap length (lines-next f codes i h) ∙ length-append (pageLine f (lineOf (decode f (getD codes i 0)))) (pageLines f (linesOf f (drop (i + 1) codes))) in
+    omega (arith, e, l, n)
+
+-- the printed page of codes
+unfoldable pub codedText : List ℕ → DayFacts → List ℕ → List ℕ
+codedText f d codes = headLine d (length codes) ++ pageLines f (linesOf f codes)
+
+pub coded-parts : (f : List ℕ) (d : DayFacts) (codes : List ℕ) → codedText f d codes ≡ headLine d (length codes) ++ pageLines f (linesOf f codes)
+unfolding codedText
+coded-parts f d codes = refl
+
+pub length-coded : (f : List ℕ) (d : DayFacts) (codes : List ℕ) → length (codedText f d codes) ≡ 16 + length (decimal (length codes)) + length (pageLines f (linesOf f codes))
+unfolding codedText
+length-coded f d codes =
+    length-append (headLine d (length codes)) (pageLines f (linesOf f codes)) ∙ rw (length-head d (length codes))
+
 -- a page by its codes, as ordering leaves them
 pub page-of-codes :
     (f : List ℕ) (c : ShortMonth) (a : Ready) (r : ℕ) (codes : List ℕ)
-    → ReadyBook f a → r ≤ length codes → take r codes ≡ map code (pageOn c (a .facts) f) → pageText f c (a .facts) ≡ headLine (a .facts) r ++ pageLines f (linesOf f (take r codes))
-unfolding pageText printed
-page-of-codes f c a r codes b h e =
+    → ReadyBook f a → take r codes ≡ map code (pageOn c (a .facts) f) → pageText f c (a .facts) ≡ codedText f (a .facts) (take r codes)
+unfolding pageText printed codedText
+page-of-codes f c a r codes b e =
     let page = pageOn c (a .facts) f in
-    let n : length (map lineOf page) ≡ r = length-map page lineOf ∙ sym (length-map page code) ∙ ap length (sym e) ∙ length-take-le r codes h in
+    let n : length (map lineOf page) ≡ length (take r codes) = length-map page lineOf ∙ sym (length-map page code) ∙ ap length (sym e) in
     rw (n, e, page-decoded f (b .long) (b .size) (fallsOn c (a .facts)))

@@ -22,7 +22,7 @@ use Rattle.pages.specs.Pages.{Numbered, numbered, startOf, pageOf, fallsOn, pag
 use Rattle.pages.specs.PageLaws.{ReadyBook, numberedAt, numbered-first, recordAt, Turn, turn, turn-yes, turn-no, turn-end, length-page}
 use Rattle.pages.specs.declared.types.Ready.{Ready}
 use Rattle.printing.specs.Printed.{headLine, stretch, pageLines, printed, pageText}
-use Rattle.printing.specs.Totals.{total, total-nil, total-cons, total-sort}
+use Rattle.prelude.specs.Totals.{total, total-nil, total-cons, total-sort}
 use Rattle.printing.specs.PrintedLaws.{length-head, lineSize, line-size, length-lines}
 
 -- the size of a page by its records in the book's order

@@ -6,12 +6,14 @@ ghost use Rattle.prelude.specs.Splice.{splice};
 ghost use Rattle.pages.specs.Answers.{asked};
 ghost use Rattle.pages.specs.PageLaws.{ReadyBook};
 ghost use Rattle.pages.specs.declared.types.Asked.{Asked};
-ghost use Rattle.printing.specs.Printed.{pageText};
-ghost use Rattle.printing.specs.Answers.{lengthIn, printIn, printLeaves};
+ghost use Rattle.printing.specs.PrintedLaws.{codedText};
+ghost use Rattle.printing.specs.Answers.{textGives, textLeaves, lengthIn, printIn, printLeaves};
+use crate::measures::coded_size;
 use crate::measures::page_size;
 use crate::puts::put_head;
 use crate::puts::put_lines;
 use days::types::CalendarDay;
+use days::types::DayFacts;
 use falls::types::ShortMonth;
 use pages::asking::ask;
 use pages::ordering::page_codes;
@@ -32,32 +34,64 @@ pub fn page_length(file: &[u8], n: CalendarDay, c: ShortMonth) -> CountAnswer
     }
 }
 
-fn put_page(file: &[u8], c: ShortMonth, a: Ready, out: &mut [u8]) -> usize
-    requires { ⌜ ReadyBook (now file) a ⌝ }
-    requires { ⌜ 0 + length (pageText (now file) c (a .facts)) ≤ length (now out) ⌝ }
-    ensures next { λ r. ⌜ r ≡ 0 + length (pageText (now (file .entry)) c (a .facts)) ⌝ }
-    ensures put { λ _. ⌜ now (out .exit) ≡ splice (now (out .entry)) 0 (pageText (now (file .entry)) c (a .facts)) ⌝ }
+fn put_page(file: &[u8], f: DayFacts, codes: &[u64], out: &mut [u8]) -> usize
+    requires { ⌜ 0 + length (codedText (now file) f (now codes)) ≤ length (now out) ⌝ }
+    ensures next { λ r. ⌜ r ≡ 0 + length (codedText (now (file .entry)) f (now (codes .entry))) ⌝ }
+    ensures put { λ _. ⌜ now (out .exit) ≡ splice (now (out .entry)) 0 (codedText (now (file .entry)) f (now (codes .entry))) ⌝ }
 {
-    let mut codes = [0u64; 4680];
-    let mut spare = [0u64; 4680];
-    let n = page_codes(file, c, a, &mut codes, &mut spare);
-    let f = a.facts;
-    let at = put_head(out, 0, f, n);
-    put_lines(file, &codes[..n], out, at)
+    let at = put_head(out, 0, f, codes.len());
+    put_lines(file, codes, out, at)
 }
 
-fn print_in(file: &[u8], c: ShortMonth, a: Ready, out: &mut [u8]) -> CountAnswer
-    requires { ⌜ ReadyBook (now file) a ⌝ }
-    ensures gives { λ r. ⌜ r ≡ printIn (now (file .entry)) c (length (now (out .entry))) (Asked.Ready a) ⌝ }
-    ensures leaves { λ _. ⌜ now (out .exit) ≡ printLeaves (now (file .entry)) c (now (out .entry)) (Asked.Ready a) ⌝ }
+// The page of codes, measured and then put.
+fn print_codes(file: &[u8], f: DayFacts, codes: &[u64], out: &mut [u8]) -> CountAnswer
+    requires { ⌜ length (codedText (now file) f (now codes)) ≤ 65535 ⌝ }
+    ensures gives { λ r. ⌜ r ≡ textGives (length (now (out .entry))) (codedText (now (file .entry)) f (now (codes .entry))) ⌝ }
+    ensures leaves { λ _. ⌜ now (out .exit) ≡ textLeaves (now (out .entry)) (codedText (now (file .entry)) f (now (codes .entry))) ⌝ }
 {
-    if out.len() < page_size(file, c, a) {
+    if out.len() < coded_size(file, f, codes) {
         return CountAnswer::Refused(Refusal {
             number: NO_ROOM,
             place: 0,
         });
     }
-    CountAnswer::Count(put_page(file, c, a, out))
+    CountAnswer::Count(put_page(file, f, codes, out))
+}
+
+// The page of a book, by way of lent working space.
+fn print_with(
+    file: &[u8],
+    c: ShortMonth,
+    a: Ready,
+    codes: &mut [u64],
+    spare: &mut [u64],
+    out: &mut [u8],
+) -> CountAnswer
+    requires { ⌜ ReadyBook (now file) a ⌝ }
+    requires { ⌜ a .records ≤ length (now codes) ⌝ }
+    requires { ⌜ length (now codes) ≤ length (now spare) ⌝ }
+    ensures gives { λ r. ⌜ r ≡ printIn (now (file .entry)) c (length (now (out .entry))) (Asked.Ready a) ⌝ }
+    ensures leaves { λ _. ⌜ now (out .exit) ≡ printLeaves (now (file .entry)) c (now (out .entry)) (Asked.Ready a) ⌝ }
+{
+    let n = page_codes(file, c, a, codes, spare);
+    let f = a.facts;
+    print_codes(file, f, &codes[..n], out)
+}
+
+// A book of few records needs little working space.
+fn print_in(file: &[u8], c: ShortMonth, a: Ready, out: &mut [u8]) -> CountAnswer
+    requires { ⌜ ReadyBook (now file) a ⌝ }
+    ensures gives { λ r. ⌜ r ≡ printIn (now (file .entry)) c (length (now (out .entry))) (Asked.Ready a) ⌝ }
+    ensures leaves { λ _. ⌜ now (out .exit) ≡ printLeaves (now (file .entry)) c (now (out .entry)) (Asked.Ready a) ⌝ }
+{
+    if a.records <= 64 {
+        let mut codes = [0u64; 64];
+        let mut spare = [0u64; 64];
+        return print_with(file, c, a, &mut codes, &mut spare, out);
+    }
+    let mut codes = [0u64; 4680];
+    let mut spare = [0u64; 4680];
+    print_with(file, c, a, &mut codes, &mut spare, out)
 }
 
 // The printed page of a day at the start of a lent buffer, and how many bytes it has.

@@ -1,4 +1,4 @@
-// How many bytes a printed page has: one pass over the book, without any order.
+// How many bytes a printed page has: of a book in one pass, without any order, or of the codes of its lines.
 ghost use mathlib.Core.Path.{_≡_};
 ghost use mathlib.Core.List.{map};
 ghost use Prim.Native.Nat.{_+_, _≤_};
@@ -7,11 +7,13 @@ ghost use Rattle.book.specs.Books.{entryAt};
 ghost use Rattle.pages.specs.Pages.{pageOn, lineOf};
 ghost use Rattle.pages.specs.PageLaws.{ReadyBook};
 ghost use Rattle.printing.specs.Printed.{stretch, pageLines, pageText};
+ghost use Rattle.printing.specs.PrintedLaws.{linesOf, codedText};
 use crate::types::Size;
-use book::entries::next_place;
+use days::types::DayFacts;
 use digits::puts::decimal_length;
 use falls::types::ShortMonth;
 use pages::collecting::falls_at;
+use pages::collecting::place_after;
 use pages::ordering::text_of;
 use pages::types::Ready;
 use prelude::slices::part;
@@ -39,7 +41,7 @@ fn measure(file: &[u8], c: ShortMonth, a: Ready) -> Size
     let mut bytes: usize = 0;
     while n < a.records {
         let here = at;
-        at = next_place(file, here);
+        at = place_after(file, here);
         n += 1;
         if falls_at(file, here, c, f) {
             lines += 1;
@@ -56,4 +58,26 @@ pub fn page_size(file: &[u8], c: ShortMonth, a: Ready) -> usize
 {
     let s = measure(file, c, a);
     16 + decimal_length(s.lines) + s.bytes
+}
+
+// The bytes of the lines of codes.
+fn lines_size(file: &[u8], codes: &[u64]) -> usize
+    requires { ⌜ length (pageLines (now file) (linesOf (now file) (now codes))) ≤ 65535 ⌝ }
+    ensures { λ r. ⌜ r ≡ length (pageLines (now (file .entry)) (linesOf (now (file .entry)) (now (codes .entry)))) ⌝ }
+{
+    let mut bytes: usize = 0;
+    let mut i: usize = 0;
+    while i < codes.len() {
+        bytes += line_size(file, (codes[i] % 65536) as usize);
+        i += 1;
+    }
+    bytes
+}
+
+// The bytes of a page, by the codes of its lines.
+pub fn coded_size(file: &[u8], f: DayFacts, codes: &[u64]) -> usize
+    requires { ⌜ length (codedText (now file) f (now codes)) ≤ 65535 ⌝ }
+    ensures { λ r. ⌜ r ≡ length (codedText (now (file .entry)) f (now (codes .entry))) ⌝ }
+{
+    16 + decimal_length(codes.len()) + lines_size(file, codes)
 }

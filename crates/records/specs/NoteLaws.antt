@@ -103,37 +103,41 @@ within-next {s} {start} {i} w h n =
     let e : toZero (drop i s) ≡ suc (toZero (drop (i + 1) s)) = rw (drop-cons s i 0 h, add-one i) (to-zero-other _ _ n) in
     record { order = omega arith; same = omega arith }
 
--- The line that begins at start ends at i, by a zero or with the note.
-pub record Ends (s : List ℕ) (start i : ℕ) : Type 0 where
+-- One byte on, to a place that is named.
+pub within-step : {s : List ℕ} {start i : ℕ} (j : ℕ) → j ≡ i + 1 → Within s start i → i < length s → (byte s i ≡ 0 → ⊥) → Within s start j
+within-step j e w h n = rw e (within-next w h n)
+
+-- The line ends at i, by a zero or with the note.
+pub within-zero : {s : List ℕ} {start i : ℕ} → Within s start i → i < length s → byte s i ≡ 0 → toZero (drop start s) ≡ i - start
+within-zero {s} {start} {i} w h z = let e = zero-here s i h z in omega (arith, w .same)
+
+pub within-end : {s : List ℕ} {start i : ℕ} → Within s start i → length s ≤ i → toZero (drop start s) ≡ i - start
+within-end {s} {start} {i} w h = let e = end-here s i h in omega (arith, w .same)
+
+-- A line of n bytes begins at start.
+pub record Line (s : List ℕ) (start n : ℕ) : Type 0 where
   pub begun : start < length s
-  pub inside : i ≤ length s
-  pub order : start ≤ i
-  pub all : toZero (drop start s) ≡ i - start
+  pub all : n ≡ toZero (drop start s)
 
-pub ends-zero : {s : List ℕ} {start i : ℕ} → Within s start i → i < length s → byte s i ≡ 0 → Ends s start i
-ends-zero {s} {start} {i} w h z =
-    let e = zero-here s i h z in record { begun = omega arith; inside = omega arith; order = w .order; all = omega arith }
+module _ {s : List ℕ} {start n : ℕ} (e : Line s start n) where
+  pub line-fits : start + n ≤ length s
+  line-fits = omega (arith, to-zero-le (drop start s), length-drop start s)
 
-pub ends-last : {s : List ℕ} {start i : ℕ} → Within s start i → i ≡ length s → start < i → Ends s start i
-ends-last {s} {start} {i} w h l =
-    let e = end-here s i (omega arith) in record { begun = omega arith; inside = omega arith; order = w .order; all = omega arith }
-
-module _ {s : List ℕ} {start i : ℕ} (e : Ends s start i) where
-  pub line-ends : linesOf (drop start s) ≡ part s start (i - start) ∷ linesOf (drop (i + 1) s)
+  line-ends : linesOf (drop start s) ≡ part s start n ∷ linesOf (drop (start + n + 1) s)
   line-ends =
-      let m : start + suc (i - start) ≡ i + 1 = omega arith in
-      first-line (drop start s) (rw (length-drop start s) (omega arith)) ∙ rw (e .all, drop-drop (suc (i - start)) start s, m)
+      let m : start + suc n ≡ start + n + 1 = omega arith in
+      first-line (drop start s) (rw (length-drop start s) (omega arith)) ∙ rw (← (e .all), drop-drop (suc n) start s, m)
 
-  line-long : length (part s start (i - start)) ≡ i - start
-  line-long = length-take-le (i - start) (drop start s) (rw (length-drop start s) (omega arith))
+  line-long : length (part s start n) ≡ n
+  line-long = length-take-le n (drop start s) (rw (length-drop start s) (let f = line-fits in omega arith))
 
-  pub count-next : length (linesOf (drop start s)) ≡ suc (length (linesOf (drop (i + 1) s)))
+  pub count-next : length (linesOf (drop start s)) ≡ suc (length (linesOf (drop (start + n + 1) s)))
   count-next = ap length line-ends
 
-  pub judged-next : (k : ℕ) → i - start ≤ 39 → judged k (linesOf (drop start s)) ≡ judged (k + 1) (linesOf (drop (i + 1) s))
+  pub judged-next : (k : ℕ) → n ≤ 39 → judged k (linesOf (drop start s)) ≡ judged (k + 1) (linesOf (drop (start + n + 1) s))
   judged-next k h = rw line-ends (judged-short k _ _ (rw line-long h))
 
-  pub judged-over : (k : ℕ) → 39 < i - start → judged k (linesOf (drop start s)) ≡ false
+  pub judged-over : (k : ℕ) → 39 < n → judged k (linesOf (drop start s)) ≡ false
   judged-over k h = rw line-ends (judged-long k _ _ (rw line-long h))
 
 pub lines-end : (s : List ℕ) (i : ℕ) → length s ≤ i → linesOf (drop i s) ≡ []

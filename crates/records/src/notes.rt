@@ -19,7 +19,47 @@ pub fn no_zero(s: &[u8]) -> bool
     true
 }
 
-// Whether a note is by its rule. The line that is being read began at `start`.
+// How many bytes there are from `start` to the next zero, or to the end, looked at one by one.
+fn to_zero(s: &[u8], start: usize) -> usize
+    ensures { λ r. ⌜ r ≡ toZero (drop start (now (s .entry))) ⌝ }
+{
+    let mut end = start;
+    while end < s.len() {
+        if s[end] == 0 {
+            return end - start;
+        }
+        end += 1;
+    }
+    end - start
+}
+
+// The same, four bytes a round.
+pub fn line_length(s: &[u8], start: usize) -> usize
+    ensures { λ r. ⌜ r ≡ toZero (drop start (now (s .entry))) ⌝ }
+{
+    if s.len() <= start {
+        return 0;
+    }
+    let mut end = start;
+    while end + 3 < s.len() {
+        if s[end] == 0 {
+            return end - start;
+        }
+        if s[end + 1] == 0 {
+            return end + 1 - start;
+        }
+        if s[end + 2] == 0 {
+            return end + 2 - start;
+        }
+        if s[end + 3] == 0 {
+            return end + 3 - start;
+        }
+        end += 4;
+    }
+    end - start + to_zero(s, end)
+}
+
+// Whether a note is by its rule.
 pub fn note_ok(s: &[u8]) -> bool
     ensures { λ r. ⌜ r ≡ noteOk (now (s .entry)) ⌝ }
 {
@@ -28,26 +68,15 @@ pub fn note_ok(s: &[u8]) -> bool
     }
     let mut lines: usize = 0;
     let mut start = 0;
-    let mut i = 0;
-    while i < s.len() {
-        if s[i] != 0 {
-            i += 1;
-            continue;
-        }
-        if 39 < i - start {
+    while start < s.len() {
+        let length = line_length(s, start);
+        if 39 < length {
             return false;
         }
-        i += 1;
         lines += 1;
-        start = i;
+        start = start + length + 1;
     }
-    if start == i {
-        return lines <= 11;
-    }
-    if 39 < i - start {
-        return false;
-    }
-    lines + 1 <= 11
+    lines <= 11
 }
 
 // The number of lines of a note.
@@ -56,17 +85,12 @@ pub fn line_count(s: &[u8]) -> usize
 {
     let mut lines = 0;
     let mut start = 0;
-    let mut i = 0;
-    while i < s.len() {
-        if s[i] != 0 {
-            i += 1;
-            continue;
-        }
-        i += 1;
+    while start < s.len() {
+        let length = line_length(s, start);
         lines += 1;
-        start = i;
+        start = start + length + 1;
     }
-    if start == i { lines } else { lines + 1 }
+    lines
 }
 
 // The place where line k of a note begins; its end where there is no line k.
@@ -86,20 +110,6 @@ pub fn line_start(s: &[u8], k: usize) -> usize
         }
     }
     i
-}
-
-// How many bytes there are from `start` to the next zero, or to the end.
-pub fn line_length(s: &[u8], start: usize) -> usize
-    ensures { λ r. ⌜ r ≡ toZero (drop start (now (s .entry))) ⌝ }
-{
-    let mut end = start;
-    while end < s.len() {
-        if s[end] == 0 {
-            return end - start;
-        }
-        end += 1;
-    }
-    end - start
 }
 
 // Line k of a note as a stretch of it; an empty one at its end where there is no line k.

@@ -2,11 +2,11 @@
 -- Assumes nothing.
 use Prim.Native.Nat.{ℕ, _/_, _%_, _<_, _≤_}
 use mathlib.Core.Path.{_≡_, refl, sym, _∙_}
-use mathlib.Core.Bool.{Bool, true, false}
+use mathlib.Core.Bool.{Bool}
 use native.Mathlib.Omega.{arith}
 use Rattle.prelude.specs.Choice.{ifLt, ifB, is-lt, is-ge, is-true, is-false, lt-elim}
-use Rattle.days.specs.Dates.{monthLength, before}
-use Rattle.days.specs.Days.{lastDay, dateOf, weekdayOf}
+use Rattle.days.specs.Dates.{before}
+use Rattle.days.specs.Days.{lastDay, dateOf}
 use Rattle.days.specs.Facts.{factsOf}
 use Rattle.days.specs.DateLaws.{Valid, length-bounds}
 use Rattle.days.specs.DayLaws.{valid-date, weekday-formula}

@@ -4,5 +4,7 @@ pub mod Rules
 pub mod Next
 pub mod CodeLaws
 pub mod MonthLaws
+pub mod MoveLaws
 pub mod RuleLaws
 pub mod WaitLaws
+pub mod FindLaws

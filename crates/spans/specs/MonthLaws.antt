@@ -1,6 +1,6 @@
 -- The days after a day: within its month only the day of the month grows, and codes of dates rise.
 -- Assumes nothing.
-use Prim.Native.Nat.{ℕ, zero, suc, _+_, _%_, _<_, _≤_}
+use Prim.Native.Nat.{ℕ, zero, suc, _+_, _-_, _%_, _<_, _≤_}
 use mathlib.Core.Path.{_≡_, refl, sym, _∙_, ap}
 use native.Mathlib.Omega.{arith}
 use native.Mathlib.Nat.{add-zero, add-suc}
@@ -75,6 +75,13 @@ codes-rise n (suc i) h =
 pub later-code : (n i : ℕ) → n + i ≤ lastDay → dateCode (factsOf n .date) ≤ dateCode (factsOf (n + i) .date)
 unfolding factsOf
 later-code n i h = codes-rise n i h
+
+-- codes of different days differ
+pub code-less : (n m : ℕ) → n < m → m ≤ lastDay → dateCode (factsOf n .date) < dateCode (factsOf m .date)
+unfolding factsOf
+code-less n m l h =
+    let e : m ≡ suc n + (m - suc n) = omega arith in
+    rw e (omega (arith, codes-rise (suc n) (m - suc n) (omega arith), rw (sym (date-suc n)) at (next-rises (dateOf n) (valid-date n (omega arith)))))
 
 -- the weekday i days later
 pub weekday-later : (n i : ℕ) → factsOf (n + i) .weekday ≡ (factsOf n .weekday + 6 + i) % 7 + 1

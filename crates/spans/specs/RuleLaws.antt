@@ -4,18 +4,18 @@ use Prim.Native.Nat.{ℕ, _+_, _-_, _/_, _%_}
 use mathlib.Core.Path.{_≡_, refl, sym, _∙_, ap}
 use mathlib.Core.Bool.{Bool, true, false}
 use native.Mathlib.Omega.{arith}
-use Rattle.prelude.specs.Choice.{ifLt, ifEq, ifB, is-lt, is-ge, is-eq, is-ne, is-true, is-false, eq-elim, lt-elim}
+use Rattle.prelude.specs.Choice.{ifLt, ifEq, ifB, is-ge, is-eq, is-ne, is-true, is-false, eq-elim, lt-elim}
 use Rattle.days.specs.declared.types.DayFacts.{DayFacts}
 use Rattle.days.specs.declared.types.Date.{Date}
 use Rattle.records.specs.Ranges.{recordOk}
-use Rattle.records.specs.RangeLaws.{Facts, facts, RepeatFacts}
+use Rattle.records.specs.RangeLaws.{facts, RepeatFacts}
 use Rattle.records.specs.declared.types.Repeat.{Repeat}
 use Rattle.records.specs.declared.types.Record.{Record}
 use Rattle.falls.specs.Falls.{datedFalls, inSpan, weeklyFalls, byPositionFalls, onMissingDay, onDay, byDateFalls, yearlyFalls, falls}
 use Rattle.falls.specs.declared.types.ShortMonth.{ShortMonth}
-use Rattle.spans.specs.Codes.{dateCode, dayCode, dateIn, monthIn, dayIn, weekdayIn, lengthIn}
+use Rattle.spans.specs.Codes.{dateCode, dayCode, monthIn, dayIn, weekdayIn}
 use Rattle.spans.specs.Rules.{repeated, ruleOf, missingShows, dayShows, onDate, inDates, ruleShows}
-use Rattle.spans.specs.CodeLaws.{Fits, valid-fits, Parts, parts, Known, Held, held, before-code}
+use Rattle.spans.specs.CodeLaws.{Fits, valid-fits, parts, Known, Held, held, before-code}
 use Rattle.spans.specs.declared.types.Rule.{Rule}
 
 -- by the kind

@@ -64,9 +64,10 @@ toDate p date = ifLt (dateIn p) date (ifLt (date - dateIn p) (toMonth p) (date -
 -- so many days on the rule can show again, and not before; 366 where it never does
 unfoldable pub waitFor : Rule → ℕ → ℕ
 waitFor r p =
-    ifLt (r .last) (dateIn p) 366
+    ifLt (dateIn p) (r .last)
     (ifEq (r .kind) 2 (toWeekday p (r .a))
     (ifEq (r .kind) 1 (toDate p (r .first))
     (ifEq (r .kind) 3 (toDay p (r .a))
     (ifEq (r .kind) 4 (toWeekday p (r .a))
     (ifEq (r .kind) 5 (ifEq (monthIn p) (r .a) (toDay p (r .b)) (toMonth p)) 366)))))
+    366

@@ -1,30 +1,29 @@
 -- A rule shows on no day before its wait is over.
 -- Assumes nothing.
-use Prim.Native.Nat.{ℕ, _+_, _-_, _*_, _/_, _%_, _<_, _≤_}
-use mathlib.Core.Path.{_≡_, refl, sym, ap, _∙_}
-use mathlib.Core.Bool.{Bool, true, false}
+use Prim.Native.Nat.{ℕ, _+_, _-_, _*_, _/_, _<_, _≤_}
+use mathlib.Core.Path.{_≡_, refl, sym, _∙_}
+use mathlib.Core.Bool.{true, false}
 use mathlib.Core.List.{List}
 use native.Mathlib.Omega.{arith}
-use native.Mathlib.Nat.{add-assoc}
 use lib.ListN.{length, getD}
 use Rattle.prelude.specs.Choice.{ifLt, ifEq, is-lt, is-ge, is-ne, eq-elim, lt-elim, tested}
-use Rattle.days.specs.Days.{lastDay, dateOf}
+use Rattle.days.specs.Days.{lastDay}
 use Rattle.days.specs.Facts.{factsOf}
 use Rattle.days.specs.declared.types.DayFacts.{DayFacts}
 use Rattle.falls.specs.declared.types.ShortMonth.{ShortMonth}
-use Rattle.spans.specs.Codes.{dateCode, dayCode, dateIn, monthIn, dayIn, weekdayIn, lengthIn, Spanned}
+use Rattle.spans.specs.Codes.{dayCode, dateIn, monthIn, dayIn, weekdayIn, lengthIn, Spanned}
 use Rattle.spans.specs.Rules.{missingShows, dayShows, onDate, inDates, ruleShows, toMonth, toDay, toWeekday, toDate, waitFor}
 use Rattle.spans.specs.CodeLaws.{Known, facts-known, Held, held}
-use Rattle.spans.specs.MonthLaws.{Later, in-month, in-length, later-code, weekday-later}
+use Rattle.spans.specs.MonthLaws.{Later, in-month, in-length, later-code, code-less, weekday-later}
 use Rattle.spans.specs.RuleLaws.{on-weekly, on-by-date, on-by-position, on-yearly, on-other, shows-off}
 use Rattle.spans.specs.declared.types.Rule.{Rule}
 
 -- a rule shows on no day outside its dates
-shows-out : (c : ShortMonth) (r : Rule) (p : ℕ) → inDates r p ≡ false → ruleShows c r p ≡ false
+pub shows-out : (c : ShortMonth) (r : Rule) (p : ℕ) → inDates r p ≡ false → ruleShows c r p ≡ false
 unfolding ruleShows
 shows-out c r p e = rw e (tested (onDate c r p) (λ t. rw t (Rattle.prelude.specs.Choice.is-true refl false false)) (λ t. rw t (Rattle.prelude.specs.Choice.is-false refl false false)))
 
-not-yet : (r : Rule) (p : ℕ) → dateIn p < r .first → inDates r p ≡ false
+pub not-yet : (r : Rule) (p : ℕ) → dateIn p < r .first → inDates r p ≡ false
 unfolding inDates
 not-yet r p h = is-lt h _ _
 
@@ -129,19 +128,23 @@ module _ (n i : ℕ) (last : n + i ≤ lastDay) where
       P w = i < w → inDates r q ≡ false
 
   -- after the last date
-  date-past : (r : Rule) → r .last < dateIn p → inDates r q ≡ false
+  pub date-past : (r : Rule) → r .last < dateIn p → inDates r q ≡ false
   date-past r h = no-more r q (omega (arith, h, hp .date, hq .date, later-code n i last))
+
+  pub date-gone : (r : Rule) → 1 ≤ i → r .last ≤ dateIn p → inDates r q ≡ false
+  date-gone r one h = no-more r q (omega (arith, h, hp .date, hq .date, code-less n (n + i) (omega arith) last))
 
   pub wait-not : (c : ShortMonth) (r : Rule) → 1 ≤ i → i < waitFor r p → ruleShows c r q ≡ false
   unfolding waitFor
   wait-not c r one =
-      lt-elim P (r .last) (dateIn p) _ _ (λ h. λ _. shows-out c r q (date-past r h))
+      lt-elim P (dateIn p) (r .last) _ _
       (λ _. eq-elim P (r .kind) 2 _ _ (λ e. λ l. shows-off c r q (on-weekly c r q e ∙ is-ne (other-weekday (r .a) one l) _ _))
       (λ n2. eq-elim P (r .kind) 1 _ _ (λ e. λ l. shows-out c r q (date-not r one l))
       (λ n1. eq-elim P (r .kind) 3 _ _ (λ e. λ l. shows-off c r q (on-by-date c r q e ∙ day-not c (r .a) one l))
       (λ n3. eq-elim P (r .kind) 4 _ _ (λ e. λ l. shows-off c r q (on-by-position c r q e ∙ is-ne (other-weekday (r .a) one l) _ _))
       (λ n4. eq-elim P (r .kind) 5 _ _ (λ e. λ l. shows-off c r q (on-yearly c r q e ∙ in-year e l))
       (λ n5. λ _. shows-off c r q (on-other c r q n1 n2 n3 n4 n5)))))))
+      (λ h. λ _. shows-out c r q (date-gone r one h))
     where
       P : ℕ → Type 0
       P w = i < w → ruleShows c r q ≡ false
@@ -156,17 +159,25 @@ module _ (n i : ℕ) (last : n + i ≤ lastDay) where
 pub wait-least : (r : Rule) (p : ℕ) → 1 ≤ waitFor r p
 unfolding waitFor
 wait-least r p =
-    lt-elim P (r .last) (dateIn p) _ _ (λ _. omega arith)
+    lt-elim P (dateIn p) (r .last) _ _
     (λ _. eq-elim P (r .kind) 2 _ _ (λ _. omega arith)
     (λ _. eq-elim P (r .kind) 1 _ _ (λ _. to-date-least p (r .first))
     (λ _. eq-elim P (r .kind) 3 _ _ (λ _. to-day-least p (r .a))
     (λ _. eq-elim P (r .kind) 4 _ _ (λ _. omega arith)
     (λ _. eq-elim P (r .kind) 5 _ _ (λ _. eq-elim P (monthIn p) (r .a) _ _ (λ _. to-day-least p (r .b)) (λ _. omega arith)) (λ _. omega arith))))))
+    (λ _. omega arith)
   where
     P : ℕ → Type 0
     P w = 1 ≤ w
 
--- the same of codes in a row
+-- dates rise along codes in a row
+pub spanned-less : {first : ℕ} {days : List ℕ} → Spanned first days → (j k : ℕ) → j < k → k < length days → dateIn (getD days j 0) < dateIn (getD days k 0)
+spanned-less {first} {days} s j k less inside =
+    let a = held (facts-known (first + j) (omega (arith, s .end))) .date in
+    let b = held (facts-known (first + k) (omega (arith, s .end))) .date in
+    rw (s .each j (omega arith), s .each k inside) (omega (arith, a, b, code-less (first + j) (first + k) (omega arith) (omega (arith, s .end))))
+
+-- the waits of codes in a row
 pub spanned-not : {first : ℕ} {days : List ℕ} → Spanned first days → (c : ShortMonth) (r : Rule) (j k : ℕ) → j < k → k < length days → k < j + waitFor r (getD days j 0) → ruleShows c r (getD days k 0) ≡ false
 spanned-not {first} {days} s c r j k less inside wait =
     let e : first + k ≡ first + j + (k - j) = omega arith in

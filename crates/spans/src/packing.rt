@@ -16,7 +16,7 @@ pub fn date_code(d: Date) -> u32
     (d.year as u32 * 16 + d.month as u32) * 32 + d.day as u32
 }
 
-fn day_code(f: DayFacts) -> u32
+pub fn day_code(f: DayFacts) -> u32
     requires { ⌜ Known f ⌝ }
     ensures { λ r. ⌜ r ≡ dayCode f ⌝ }
 {

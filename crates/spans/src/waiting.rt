@@ -54,7 +54,7 @@ fn to_date(p: u32, date: u32) -> u32
 pub fn wait_for(r: Rule, p: u32) -> u32
     ensures { λ z. ⌜ z ≡ waitFor r p ⌝ }
 {
-    if r.last < p / 256 {
+    if r.last <= p / 256 {
         return 366;
     }
     if r.kind == 2 {

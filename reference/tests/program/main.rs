@@ -4,6 +4,7 @@
 
 mod exports;
 mod inputs;
+mod pipes;
 mod words;
 
 use reference::pages::ShortMonth;
@@ -33,11 +34,17 @@ fn said(command: &Command, output: Output) -> Vec<u8> {
     stdout
 }
 
-/// Runs it, and writes its standard input in such pieces.
-fn run_slowly<'a>(words: &[Vec<u8>], pieces: impl Iterator<Item = &'a [u8]> + Send) -> Vec<u8> {
+/// With a pipe for each of its three files.
+fn command(words: &[Vec<u8>]) -> Command {
     let mut command = Command::new(program());
     command.args(words.iter().map(|word| OsString::from_vec(word.clone())));
     command.stdin(Stdio::piped()).stdout(Stdio::piped()).stderr(Stdio::piped());
+    command
+}
+
+/// Runs it, and writes its standard input in such pieces.
+fn run_slowly<'a>(words: &[Vec<u8>], pieces: impl Iterator<Item = &'a [u8]> + Send) -> Vec<u8> {
+    let mut command = command(words);
     let mut child = command.spawn().unwrap_or_else(|e| panic!("{command:?}: {e}"));
     let mut input = child.stdin.take().expect("a pipe");
     thread::scope(|scope| {

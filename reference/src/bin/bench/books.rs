@@ -1,44 +1,97 @@
-//! Reading books of 65,535 bytes.
+//! Reading books: the case of 33 bytes, and books of 65,535.
 
-use super::{again, hidden, kept, Row};
+use super::{again, hidden, kept, row, Cells, Row};
 use reference::book as plain;
 use reference::books::{long, small, File};
 use reference::ffi::book as proved;
 use reference::rng::Rng;
+use reference::vectors::{every_kind, WHOLE_CASE};
 
 const CALLS: usize = 20;
 
-/// Of 65,535 bytes each: some 3,700 dated records with short texts, and 135 with notes of 440 bytes.
-struct Books {
-    small: Vec<u8>,
-    long: Vec<u8>,
+type Book = fn() -> &'static [u8];
+
+/// A file, a record's number and a line's.
+type Asked = (&'static [u8], usize, usize);
+
+fn case() -> &'static [u8] {
+    &WHOLE_CASE
 }
 
-impl Books {
-    fn full() -> Self {
-        let mut rng = Rng::new(1);
-        Books {
-            small: File::full(plain::LONGEST, || small(1, &mut rng)).bytes,
-            long: File::full(plain::LONGEST, || long(1, &mut rng)).bytes,
-        }
-    }
+/// Its record 1 has a note of three lines.
+fn with_a_note() -> &'static [u8] {
+    kept(every_kind())
+}
+
+/// Of 65,535 bytes: 3,747 dated records with short texts.
+fn full_of_small() -> &'static [u8] {
+    let mut rng = Rng::new(1);
+    kept(File::full(plain::LONGEST, || small(1, &mut rng)).bytes)
+}
+
+/// Of 65,535 bytes: 135 dated records with notes of 440 bytes.
+fn full_of_long() -> &'static [u8] {
+    let mut rng = Rng::new(1);
+    kept(File::full(plain::LONGEST, || long(1, &mut rng)).bytes)
+}
+
+fn records(file: &[u8]) -> usize {
+    plain::read_book(file).expect("a right book").records
+}
+
+fn reading(case: &'static str, book: Book, by_record: bool) -> Row {
+    row("read_book", case, CALLS, move || {
+        let file = book();
+        let runs = [again(file, proved::read_book), again(file, hidden(plain::read_book)), None];
+        let size = if by_record { (records(file), "record") } else { (file.len(), "byte") };
+        Cells { runs, size: Some(size) }
+    })
+}
+
+/// Record and line are the last ones where none is named.
+fn asked(file: &'static [u8], record: Option<usize>) -> Asked {
+    let record = record.unwrap_or(records(file) - 1);
+    (file, record, plain::note_lines(file, record).expect("a record").saturating_sub(1))
+}
+
+fn one_record(case: &'static str, book: Book) -> Row {
+    row("record", case, CALLS, move || {
+        let asked = asked(book(), None);
+        let by_plain = hidden(|(file, record, _): Asked| plain::record(file, record));
+        let by_proved = again(asked, |(file, record, _)| proved::record(file, record));
+        Cells { runs: [by_proved, again(asked, by_plain), None], size: Some((asked.0.len(), "byte")) }
+    })
+}
+
+fn number_of_lines(case: &'static str, book: Book, record: Option<usize>) -> Row {
+    row("note_lines", case, CALLS, move || {
+        let asked = asked(book(), record);
+        let by_plain = hidden(|(file, record, _): Asked| plain::note_lines(file, record));
+        let by_proved = again(asked, |(file, record, _)| proved::note_lines(file, record));
+        Cells { runs: [by_proved, again(asked, by_plain), None], size: Some((asked.0.len(), "byte")) }
+    })
+}
+
+fn last_line(case: &'static str, book: Book, record: Option<usize>) -> Row {
+    row("note_line", case, CALLS, move || {
+        let asked = asked(book(), record);
+        let by_plain = hidden(|(file, record, line): Asked| plain::note_line(file, record, line));
+        let by_proved = again(asked, |(file, record, line)| proved::note_line(file, record, line));
+        Cells { runs: [by_proved, again(asked, by_plain), None], size: Some((asked.0.len(), "byte")) }
+    })
 }
 
 pub fn rows() -> Vec<Row> {
-    let Books { small, long } = kept(Books::full());
-    let row = |name, proved, plain| Row { name, calls: CALLS, runs: [proved, plain, None] };
-    let read = |name, file: &'static [u8]| {
-        row(name, again(file, proved::read_book), again(file, hidden(plain::read_book)))
-    };
-    let last = |name, file: &'static [u8]| {
-        let asked = (file, plain::read_book(file).expect("a right book").records - 1);
-        let proved = again(asked, |(file, number)| proved::record(file, number));
-        row(name, proved, again(asked, hidden(|(file, number)| plain::record(file, number))))
-    };
     vec![
-        read("book of small records", small),
-        last("its last record", small),
-        read("book of long records", long),
-        last("its last record", long),
+        reading("the case, 33 bytes", case, false),
+        reading("full, 3,747 small records", full_of_small, true),
+        reading("full, 135 long records", full_of_long, false),
+        one_record("of the case", case),
+        one_record("last of 3,747 small ones", full_of_small),
+        one_record("last of 135 long ones", full_of_long),
+        number_of_lines("three, book of 183 bytes", with_a_note, Some(1)),
+        number_of_lines("last of 135 long ones", full_of_long, None),
+        last_line("third, book of 183 bytes", with_a_note, Some(1)),
+        last_line("last of 135 long ones", full_of_long, None),
     ]
 }

@@ -1,42 +1,88 @@
-//! Reading Calendar files of 2,228,224 bytes.
+//! Reading Calendar files: the case of 192 bytes, and files of 2,228,224.
 
-use super::{again, hidden, kept, Row};
+use super::{again, hidden, kept, row, Cells, Row};
 use reference::calendar as plain;
 use reference::calendars::full;
 use reference::ffi::calendar as proved;
 use reference::rng::Rng;
+use reference::vectors::calendars::whole_case;
 
 const CALLS: usize = 4;
 
-/// A file, a day and an appointment's number.
-type Asked = (&'static [u8], u16, usize);
+type File = fn() -> &'static [u8];
 
-fn reading(name: &'static str, file: &'static [u8]) -> Row {
-    assert!(plain::read_calendar(file).is_ok());
-    let runs = [again(file, proved::read_calendar), again(file, hidden(plain::read_calendar)), None];
-    Row { name, calls: CALLS, runs }
+/// A file, a descriptor's number, its day, and an appointment's number: the last of each.
+type Asked = (&'static [u8], usize, u16, usize);
+
+fn case() -> &'static [u8] {
+    kept(whole_case())
 }
 
-/// The last appointment of the file's last day.
-fn last_appointment(name: &'static str, file: &'static [u8]) -> Row {
-    let days = plain::read_calendar(file).expect("a right file");
-    let day = plain::calendar_day(file, days - 1).expect("a day").day;
-    let last = plain::calendar_appointments(file, day).expect("a right file") - 1;
-    let asked: Asked = (file, day, last);
-    let by_proved = |(file, day, last): Asked| proved::calendar_appointment(file, day, last);
-    let by_plain = hidden(|(file, day, last): Asked| plain::calendar_appointment(file, day, last));
-    Row { name, calls: CALLS, runs: [again(asked, by_proved), again(asked, by_plain), None] }
+fn many_days() -> &'static [u8] {
+    &kept(full(0, &mut Rng::new(1))).bytes
+}
+
+fn long_ones() -> &'static [u8] {
+    &kept(full(1, &mut Rng::new(1))).bytes
+}
+
+fn short_ones() -> &'static [u8] {
+    &kept(full(2, &mut Rng::new(1))).bytes
+}
+
+fn asked(file: &'static [u8]) -> Asked {
+    let last = plain::read_calendar(file).expect("a right file") - 1;
+    let day = plain::calendar_day(file, last).expect("a day").day;
+    (file, last, day, plain::calendar_appointments(file, day).expect("a right file") - 1)
+}
+
+/// Files are judged to their last list, behind which they may be filled.
+fn asking<A: 'static, B: 'static>(
+    call: &'static str,
+    case: &'static str,
+    file: File,
+    proved: fn(Asked) -> A,
+    plain: fn(Asked) -> B,
+) -> Row {
+    row(call, case, CALLS, move || {
+        let asked = asked(file());
+        let runs = [again(asked, proved), again(asked, hidden(plain)), None];
+        Cells { runs, size: Some((asked.0.len(), "byte")) }
+    })
+}
+
+fn reading(case: &'static str, file: File) -> Row {
+    asking("read_calendar", case, file, |a| proved::read_calendar(a.0), |a| plain::read_calendar(a.0))
+}
+
+fn day(case: &'static str, file: File) -> Row {
+    asking("calendar_day", case, file, |a| proved::calendar_day(a.0, a.1), |a| plain::calendar_day(a.0, a.1))
+}
+
+fn counting(case: &'static str, file: File) -> Row {
+    let by_proved = |a: Asked| proved::calendar_appointments(a.0, a.2);
+    asking("calendar_appointments", case, file, by_proved, |a| plain::calendar_appointments(a.0, a.2))
+}
+
+fn last(case: &'static str, file: File) -> Row {
+    let by_proved = |a: Asked| proved::calendar_appointment(a.0, a.2, a.3);
+    asking("calendar_appointment", case, file, by_proved, |a| plain::calendar_appointment(a.0, a.2, a.3))
 }
 
 pub fn rows() -> Vec<Row> {
-    let mut rng = Rng::new(1);
-    let [many_days, long, short] = [0, 1, 2].map(|style| -> &[u8] { &kept(full(style, &mut rng)).bytes });
     vec![
-        reading("27,593 Calendar days", many_days),
-        last_appointment("its last appointment", many_days),
-        reading("8,224 long appointments", long),
-        last_appointment("its last appointment", long),
-        reading("419,424 short ones", short),
-        last_appointment("its last appointment", short),
+        reading("the case, 192 bytes", case),
+        reading("full, 27,593 days", many_days),
+        reading("full, 8,224 long ones", long_ones),
+        reading("full, 419,424 short ones", short_ones),
+        day("of the case", case),
+        day("last of 27,593", many_days),
+        counting("of the case", case),
+        counting("last of 27,593 days", many_days),
+        counting("13,107 on the last day", short_ones),
+        last("of the case", case),
+        last("last of 27,593 days", many_days),
+        last("last of 8,224 long ones", long_ones),
+        last("last of 419,424 short ones", short_ones),
     ]
 }

@@ -1,6 +1,6 @@
-//! Day arithmetic.
+//! Day arithmetic, over random days and dates.
 
-use super::{hidden, kept, Row, Run};
+use super::{hidden, kept, row, Cells, Row, Run, Runs};
 use reference::civil;
 use reference::days::{self as plain, Date, FIRST_PSION_DAY, LAST_DAY, LAST_PSION_DAY};
 use reference::ffi::days as proved;
@@ -28,13 +28,6 @@ impl Days {
     }
 }
 
-pub fn rows() -> Vec<Row> {
-    let inputs = kept(Days::random());
-    let mut rows = conversions(inputs);
-    rows.extend(small_rows(inputs));
-    rows
-}
-
 fn over<I: Copy, O>(inputs: &'static [I], call: impl Fn(I) -> O + 'static) -> Option<Run> {
     Some(Box::new(move |count| {
         for &input in &inputs[..count] {
@@ -49,68 +42,75 @@ fn stepping<F: Copy + 'static>(first: F, next: impl Fn(F) -> F + 'static) -> Opt
     }))
 }
 
-fn conversions(inputs: &'static Days) -> Vec<Row> {
-    let Days { days, dates, .. } = inputs;
-    let row = |name, runs| Row { name, calls: days.len(), runs };
+fn day(call: &'static str, case: &'static str, runs: fn(&'static Days) -> Runs) -> Row {
+    row(call, case, LAST_DAY.into(), move || Cells { runs: runs(kept(Days::random())), size: None })
+}
+
+pub fn rows() -> Vec<Row> {
+    let mut rows = conversions();
+    rows.extend(small_rows());
+    rows
+}
+
+fn conversions() -> Vec<Row> {
     vec![
-        row("an empty call", [None, over(days, hidden(|_| ())), None]),
-        row(
-            "date of a day",
+        day("(an empty call)", "", |d| [None, over(&d.days, hidden(|_| ())), None]),
+        day("date_of_day", "random days", |d| {
             [
-                over(days, |day| proved::date_of_day(day)),
-                over(days, hidden(plain::date_of_day)),
-                over(days, hidden(civil::date_of_day)),
-            ],
-        ),
-        row(
-            "day of a date",
+                over(&d.days, |day| proved::date_of_day(day)),
+                over(&d.days, hidden(plain::date_of_day)),
+                over(&d.days, hidden(civil::date_of_day)),
+            ]
+        }),
+        day("day_of_date", "random dates", |d| {
             [
-                over(dates, |date| proved::day_of_date(date.year, date.month, date.day)),
-                over(dates, hidden(plain::day_of_date)),
-                over(dates, hidden(civil::day_of_date)),
-            ],
-        ),
-        row(
-            "facts of a day",
+                over(&d.dates, |date| proved::day_of_date(date.year, date.month, date.day)),
+                over(&d.dates, hidden(plain::day_of_date)),
+                over(&d.dates, hidden(civil::day_of_date)),
+            ]
+        }),
+        day("day_facts", "random days", |d| {
             [
-                over(days, |day| proved::day_facts(day)),
-                over(days, hidden(plain::day_facts)),
-                over(days, hidden(civil::day_facts)),
-            ],
-        ),
+                over(&d.days, |day| proved::day_facts(day)),
+                over(&d.days, hidden(plain::day_facts)),
+                over(&d.days, hidden(civil::day_facts)),
+            ]
+        }),
     ]
 }
 
-fn small_rows(inputs: &'static Days) -> Vec<Row> {
-    let Days { days, dates, psion_days, same_days } = inputs;
-    let row = |name, proved, plain| Row { name, calls: days.len(), runs: [proved, plain, None] };
-    let plain_next = hidden(plain::next_day);
+fn small_rows() -> Vec<Row> {
     vec![
-        row(
-            "next day, 43,829 steps",
-            stepping(proved::day_facts(0), |facts| proved::next_day(facts)),
-            stepping(plain::day_facts(0), move |facts| plain_next(facts?)),
-        ),
-        row("weekday", over(days, |day| proved::weekday(day)), over(days, hidden(plain::weekday))),
-        row(
-            "is a real date",
-            over(dates, |date| proved::is_real_date(date.year, date.month, date.day)),
-            over(dates, hidden(plain::is_real_date)),
-        ),
-        row(
-            "month length",
-            over(dates, |date| proved::month_length(date.year, date.month)),
-            over(dates, hidden(|date: Date| plain::month_length(date.year, date.month))),
-        ),
-        row(
-            "Calendar day of Psion's",
-            over(psion_days, |day| proved::calendar_of_psion(day)),
-            over(psion_days, hidden(plain::calendar_of_psion)),
-        ),
-        row(
-            "Psion day of Calendar's",
-            over(same_days, |day| proved::psion_of_calendar(day)),
-            over(same_days, hidden(plain::psion_of_calendar)),
-        ),
+        day("next_day", "all days, one by one", |_| {
+            let plain_next = hidden(plain::next_day);
+            [
+                stepping(proved::day_facts(0), |facts| proved::next_day(facts)),
+                stepping(plain::day_facts(0), move |facts| plain_next(facts?)),
+                None,
+            ]
+        }),
+        day("weekday", "random days", |d| {
+            [over(&d.days, |day| proved::weekday(day)), over(&d.days, hidden(plain::weekday)), None]
+        }),
+        day("is_real_date", "random dates", |d| {
+            let by_proved = |date: Date| proved::is_real_date(date.year, date.month, date.day);
+            [over(&d.dates, by_proved), over(&d.dates, hidden(plain::is_real_date)), None]
+        }),
+        day("month_length", "random months", |d| {
+            let by_plain = hidden(|date: Date| plain::month_length(date.year, date.month));
+            [
+                over(&d.dates, |date| proved::month_length(date.year, date.month)),
+                over(&d.dates, by_plain),
+                None,
+            ]
+        }),
+        day("calendar_of_psion", "random days", |d| {
+            let by_plain = hidden(plain::calendar_of_psion);
+            [over(&d.psion_days, |day| proved::calendar_of_psion(day)), over(&d.psion_days, by_plain), None]
+        }),
+        day("psion_of_calendar", "random days", |d| {
+            let by_plain = hidden(plain::psion_of_calendar);
+            [over(&d.same_days, |day| proved::psion_of_calendar(day)), over(&d.same_days, by_plain), None]
+        }),
     ]
 }

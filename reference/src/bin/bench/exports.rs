@@ -1,38 +1,48 @@
-//! Exports of 366 days.
+//! Exports: the case, and books over 366 days.
 
-use super::{kept, Row, Run};
-use reference::book::LONGEST;
+use super::{again, kept, row, Cells, Row, Run};
+use reference::book::{self, LONGEST};
 use reference::books::{book_of_span, near, small, Draft, Field, File, Span, CROWDED_SPAN};
 use reference::calendar;
 use reference::export as plain;
 use reference::ffi::export as proved;
 use reference::pages::ShortMonth::Skip;
 use reference::rng::Rng;
+use reference::vectors::WHOLE_CASE;
 use std::cell::RefCell;
 use std::hint::black_box;
 
 const CALLS: usize = 2;
 const SPAN: Span = CROWDED_SPAN;
 
-type Export = fn(&[u8], &mut [u8]) -> usize;
+type Book = fn() -> &'static [u8];
+type Export = fn(&[u8], Span, &mut [u8]) -> usize;
 
-fn exporting(name: &'static str, book: &'static [u8]) -> Row {
-    let again = |export: Export| -> Option<Run> {
-        let buffer = RefCell::new(vec![0; calendar::LONGEST]);
-        Some(Box::new(move |count| {
-            for _ in 0..count {
-                black_box(export(black_box(book), &mut buffer.borrow_mut()));
-            }
-        }))
-    };
-    let by_proved: Export = |book, buffer| proved::export(book, SPAN.first, SPAN.count, Skip, buffer).count;
-    let by_plain: Export =
-        |book, buffer| plain::export(book, SPAN.first, SPAN.count, Skip, buffer).expect("room");
-    let by_jumps: Export = |book, buffer| {
-        plain::export_by_occurrences(book, SPAN.first, SPAN.count, Skip, buffer).expect("room")
-    };
-    let runs = [again(by_proved), again(black_box(by_plain)), again(black_box(by_jumps))];
-    Row { name, calls: CALLS, runs }
+fn exporting(case: &'static str, span: Span, book: Book) -> Row {
+    row("export", case, CALLS, move || {
+        let file = book();
+        let lent = |export: Export| -> Option<Run> {
+            let buffer = RefCell::new(vec![0; calendar::LONGEST]);
+            again(file, move |file| export(file, span, &mut buffer.borrow_mut()))
+        };
+        let by_proved: Export = |file, span, buffer| {
+            let answer = proved::export(file, span.first, span.count, Skip, buffer);
+            assert_eq!(answer.number, 0);
+            answer.count
+        };
+        let by_plain: Export =
+            |file, span, buffer| plain::export(file, span.first, span.count, Skip, buffer).expect("room");
+        let by_jumps: Export = |file, span, buffer| {
+            plain::export_by_occurrences(file, span.first, span.count, Skip, buffer).expect("room")
+        };
+        let runs = [lent(by_proved), lent(black_box(by_plain)), lent(black_box(by_jumps))];
+        let records = book::read_book(file).expect("a right book").records;
+        Cells { runs, size: Some((records * usize::from(span.count), "record and day")) }
+    })
+}
+
+fn case() -> &'static [u8] {
+    &WHOLE_CASE
 }
 
 /// 200 records of all kinds, with notes and padding, near to days of the span.
@@ -67,9 +77,12 @@ fn mondays() -> &'static [u8] {
 
 pub fn rows() -> Vec<Row> {
     vec![
-        exporting("export of 200 records", typical()),
-        exporting("of a full dated book", full(1)),
-        exporting("of a full weekly book", full(2)),
-        exporting("of one all on Mondays", mondays()),
+        exporting("the case, 1 day", Span { count: 1, ..SPAN }, case),
+        exporting("200 records, 366 days", SPAN, typical),
+        exporting("full, dated, 1 day", Span { count: 1, ..SPAN }, || full(1)),
+        exporting("full, dated, 366 days", SPAN, || full(1)),
+        exporting("full, weekly, 366 days", SPAN, || full(2)),
+        exporting("full, monthly, 366 days", SPAN, || full(3)),
+        exporting("full, on Mondays, 366 days", SPAN, mondays),
     ]
 }

@@ -1,43 +1,50 @@
-//! `cargo run --release --bin bench` prints what a call costs: the proved library beside the plain
-//! reference and, where there is one, the fastest way known.
+//! `cargo run --release --bin bench [-- --markdown]` prints what each call of `include/apptbook.h` costs: the proved
+//! library beside the plain reference and, where there is one, another way to the same answer.
 //!
 //! None of these is inlined; the row "an empty call" is what the loop and a call cost by themselves.
-//! Instructions are counted by callgrind, over this program run again with and without the calls.
+//! Instructions are counted by callgrind, over this program run again for each cell, inside of `measured` only.
 
 mod books;
 mod calendars;
 mod days;
 mod exports;
 mod pages;
+mod table;
 mod writings;
 
+use reference::callgrind::{instructions, measured, Run};
 use std::env;
 use std::hint::black_box;
-use std::process::Command;
 use std::time::Instant;
+use table::{Line, Style};
 
-const COLUMNS: [&str; 3] = ["proved", "reference", "fastest"];
 const PASSES: usize = 30;
 
-/// Makes as many calls as it is told, at most the row's number.
-type Run = Box<dyn Fn(usize)>;
+/// By the proved library, by the reference, in another way.
+type Runs = [Option<Run>; 3];
 
 struct Row {
-    name: &'static str,
+    /// As the header has it, without `apptbook_`.
+    call: &'static str,
+    case: &'static str,
+    /// How many are made in a pass.
     calls: usize,
-    /// In the order of `COLUMNS`.
-    runs: [Option<Run>; 3],
+    /// Makes what the calls are handed, which then stays.
+    make: Box<dyn Fn() -> Cells>,
 }
 
-/// Each makes what its calls are handed, which then stays.
-const GROUPS: &[fn() -> Vec<Row>] = &[
-    days::rows,
-    books::rows,
-    writings::rows,
-    pages::rows,
-    calendars::rows,
-    exports::rows,
-];
+struct Cells {
+    runs: Runs,
+    /// What a call goes through: how many of what.
+    size: Option<(usize, &'static str)>,
+}
+
+fn row(call: &'static str, case: &'static str, calls: usize, make: impl Fn() -> Cells + 'static) -> Row {
+    Row { call, case, calls, make: Box::new(make) }
+}
+
+const GROUPS: &[fn() -> Vec<Row>] =
+    &[days::rows, books::rows, writings::rows, pages::rows, calendars::rows, exports::rows];
 
 fn kept<T>(value: T) -> &'static T {
     Box::leak(Box::new(value))
@@ -57,77 +64,54 @@ fn again<I: Copy + 'static, O>(input: I, call: impl Fn(I) -> O + 'static) -> Opt
     }))
 }
 
-/// All instructions of a process that makes so many calls; None where there is no valgrind.
-fn instructions(group: usize, row: usize, column: usize, calls: usize) -> Option<f64> {
-    let output = Command::new("valgrind")
-        .args(["--tool=callgrind", "--callgrind-out-file=/dev/null"])
-        .arg(env::current_exe().ok()?)
-        .args([group, row, column, calls].map(|number| number.to_string()))
-        .output()
-        .ok()?;
-    let report = String::from_utf8_lossy(&output.stderr);
-    report.lines().find_map(|line| line.split_once("Collected :")?.1.trim().parse().ok())
-}
-
 /// The quickest of some passes: the others were disturbed.
 fn nanoseconds(run: &Run, calls: usize) -> f64 {
     let pass = |_| {
         let start = Instant::now();
-        run(calls);
+        measured(run, calls);
         start.elapsed().as_nanos() as f64 / calls as f64
     };
     (0..PASSES).map(pass).fold(f64::INFINITY, f64::min)
 }
 
-fn line(name: &str, costs: [[Option<f64>; 3]; 2]) {
-    print!("{name:<24}");
-    for cost in costs {
-        let ratio = cost[0].zip(cost[1]).map(|(proved, plain)| proved / plain);
-        for (value, digits) in cost.into_iter().map(|value| (value, 1)).chain([(ratio, 2)]) {
-            match value {
-                Some(value) => print!("{value:>12.digits$}"),
-                None => print!("{:>12}", "-"),
-            }
+fn line(group: usize, number: usize, row: &Row) -> Line {
+    let cells = (row.make)();
+    let each = |column: usize| {
+        let run = cells.runs[column].as_ref()?;
+        let counted = instructions(&[group, number, column], row.calls);
+        Some((counted, nanoseconds(run, row.calls)))
+    };
+    let costs = [0, 1, 2].map(each);
+    Line {
+        call: row.call,
+        case: row.case,
+        instructions: costs.map(|cost| cost?.0),
+        nanoseconds: costs.map(|cost| Some(cost?.1)),
+        size: cells.size,
+    }
+}
+
+fn print_table(style: Style) {
+    println!("{}", table::head(style));
+    for (group, rows) in GROUPS.iter().enumerate() {
+        for (number, row) in rows().iter().enumerate() {
+            println!("{}", table::line(style, &line(group, number, row)));
         }
-        print!("   ");
     }
-    println!();
+    print!("\n{}", table::legend(style));
 }
 
-fn print_group(group: usize, rows: &[Row]) {
-    let idle = instructions(group, 0, 1, 0);
-    for (number, row) in rows.iter().enumerate() {
-        let each = |column: usize| {
-            let run = row.runs[column].as_ref()?;
-            let all = instructions(group, number, column, row.calls);
-            let counted = all.zip(idle).map(|(all, idle)| (all - idle) / row.calls as f64);
-            Some((counted, nanoseconds(run, row.calls)))
-        };
-        let cells = [0, 1, 2].map(each);
-        line(row.name, [cells.map(|cell| cell?.0), cells.map(|cell| Some(cell?.1))]);
-    }
-    if idle.is_none() {
-        println!("instructions not counted: valgrind is not here or failed");
-    }
-}
-
-/// With no word: the table. With four: the numbers of a group, a row and a column, and of calls to make.
+/// Words: none or `--markdown`, for the table; or the numbers of a group, a row and a column, and of calls to make.
 fn main() {
-    let numbers: Vec<usize> = env::args().skip(1).map(|word| word.parse().expect("a number")).collect();
-    match numbers[..] {
-        [] => {
-            println!("{:<24}{:^48}   {:^48}", "", "instructions per call", "nanoseconds per call");
-            let heads = COLUMNS.map(|column| format!("{column:>12}")).concat() + "       ratio   ";
-            println!("{:<24}{heads}{heads}", "call");
-            for (number, rows) in GROUPS.iter().enumerate() {
-                print_group(number, &rows());
-            }
-            println!("ratio: proved / reference; the goal is at or below 1");
+    let words: Vec<String> = env::args().skip(1).collect();
+    let numbers: Vec<usize> = words.iter().flat_map(|word| word.parse()).collect();
+    match (&words[..], &numbers[..]) {
+        ([], _) => print_table(Style::Plain),
+        ([word], _) if word == "--markdown" => print_table(Style::Markdown),
+        (_, &[group, row, column, calls]) => {
+            let cells = (GROUPS[group]()[row].make)();
+            measured(cells.runs[column].as_ref().expect("a call that is there"), calls);
         }
-        [group, row, column, calls] => {
-            let rows = GROUPS[group]();
-            rows[row].runs[column].as_ref().expect("a call that is there")(calls);
-        }
-        _ => panic!("usage: bench [GROUP ROW COLUMN CALLS]"),
+        _ => panic!("usage: bench [--markdown | GROUP ROW COLUMN CALLS]"),
     }
 }

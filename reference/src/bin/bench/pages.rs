@@ -1,6 +1,6 @@
 //! Day pages and the next occurrence, with the choice skip.
 
-use super::{again, hidden, kept, Row, Run};
+use super::{again, hidden, kept, row, Cells, Row, Run};
 use reference::book::{self, LONGEST};
 use reference::books::{book_near, small, Field, File};
 use reference::days::LAST_DAY;
@@ -12,16 +12,18 @@ use reference::printed;
 use reference::refusal::Refusal;
 use reference::rng::Rng;
 use std::cell::RefCell;
-use std::hint::black_box;
 
 const CALLS: usize = 20;
 const DAY: u16 = 4_822;
 
+type Book = fn() -> &'static [u8];
+
 /// A file, a record's or line's number and a day.
 type Asked = (&'static [u8], usize, u16);
 
-fn row(name: &'static str, proved: Option<Run>, plain: Option<Run>) -> Row {
-    Row { name, calls: CALLS, runs: [proved, plain, None] }
+/// Twelve records of any kinds, most of which fall on the day.
+fn small_book() -> &'static [u8] {
+    kept(book_near(DAY, 12, &mut Rng::new(1)).bytes)
 }
 
 /// Of 65,535 bytes: small records of all kinds, any dates.
@@ -51,46 +53,89 @@ fn single(kind: u8, field: Field, value: &[u8], dates: [u8; 6]) -> &'static [u8]
     kept(File::new([0, 0, 1, 0, 0, 0, 0], &[draft]).bytes)
 }
 
-type Print = fn(&[u8], &mut [u8]) -> usize;
-
-fn printing(name: &'static str, file: &'static [u8]) -> Row {
-    let again = |print: Print| -> Option<Run> {
-        let buffer = RefCell::new(vec![0; LONGEST]);
-        Some(Box::new(move |count| {
-            for _ in 0..count {
-                black_box(print(black_box(file), &mut buffer.borrow_mut()));
-            }
-        }))
-    };
-    let by_proved: Print = |file, buffer| proved::print_page(file, DAY, Skip, buffer).count;
-    let by_plain: Print = |file, buffer| printed::print_page(file, DAY, Skip, buffer).expect("room");
-    row(name, again(by_proved), again(black_box(by_plain)))
+/// On 1 January 1980 only.
+fn ended() -> &'static [u8] {
+    single(2, Field::Weekday, &[3], [80, 1, 1, 80, 1, 1])
 }
 
-fn counting(name: &'static str, file: &'static [u8]) -> Row {
-    let by_plain = hidden(|file| plain::page_lines(file, DAY, Skip));
-    row(name, again(file, |file| proved::page_lines(file, DAY, Skip)), again(file, by_plain))
+fn leap_day() -> &'static [u8] {
+    single(5, Field::MonthAndDay, &[2, 29], [196, 1, 1, 199, 12, 31])
 }
 
-fn last_line(name: &'static str, file: &'static [u8]) -> Row {
-    let lines = plain::page_lines(file, DAY, Skip).expect("a right book");
-    let asked: Asked = (file, lines - 1, DAY);
-    let by_plain = hidden(|(file, line, day): Asked| plain::page_line(file, day, Skip, line));
-    row(
-        name,
-        again(asked, |(file, line, day)| proved::page_line(file, day, Skip, line)),
-        again(asked, by_plain),
-    )
+fn records(file: &[u8]) -> usize {
+    book::read_book(file).expect("a right book").records
+}
+
+fn by_record(file: &[u8]) -> Option<(usize, &'static str)> {
+    Some((records(file), "record"))
+}
+
+fn printing(case: &'static str, book: Book) -> Row {
+    row("print_page", case, CALLS, move || {
+        let file = book();
+        let lent = |print: fn(&[u8], &mut [u8]) -> usize| -> Option<Run> {
+            let buffer = RefCell::new(vec![0; LONGEST]);
+            again(file, move |file| print(file, &mut buffer.borrow_mut()))
+        };
+        let by_proved = lent(|file, buffer| proved::print_page(file, DAY, Skip, buffer).count);
+        let by_plain = lent(|file, buffer| printed::print_page(file, DAY, Skip, buffer).expect("room"));
+        Cells { runs: [by_proved, by_plain, None], size: by_record(file) }
+    })
+}
+
+fn length(case: &'static str, book: Book) -> Row {
+    row("page_length", case, CALLS, move || {
+        let file = book();
+        let by_plain = hidden(|file| printed::page_length(file, DAY, Skip));
+        let by_proved = again(file, |file| proved::page_length(file, DAY, Skip));
+        Cells { runs: [by_proved, again(file, by_plain), None], size: by_record(file) }
+    })
+}
+
+fn counting(case: &'static str, book: Book) -> Row {
+    row("page_lines", case, CALLS, move || {
+        let file = book();
+        let by_plain = hidden(|file| plain::page_lines(file, DAY, Skip));
+        let by_proved = again(file, |file| proved::page_lines(file, DAY, Skip));
+        Cells { runs: [by_proved, again(file, by_plain), None], size: by_record(file) }
+    })
+}
+
+fn last_line(case: &'static str, book: Book) -> Row {
+    row("page_line", case, CALLS, move || {
+        let file = book();
+        let lines = plain::page_lines(file, DAY, Skip).expect("a right book");
+        let asked: Asked = (file, lines - 1, DAY);
+        let by_plain = hidden(|(file, line, day): Asked| plain::page_line(file, day, Skip, line));
+        let by_proved = again(asked, |(file, line, day)| proved::page_line(file, day, Skip, line));
+        Cells { runs: [by_proved, again(asked, by_plain), None], size: by_record(file) }
+    })
 }
 
 /// For the book's last record.
-fn searching(name: &'static str, file: &'static [u8], from: u16) -> Row {
-    let asked: Asked = (file, book::read_book(file).expect("a right book").records - 1, from);
-    let by_proved = |(file, record, day): Asked| proved::next_occurrence(file, record, day, Skip);
-    let by_plain = hidden(|(file, record, day): Asked| plain::next_occurrence(file, record, day, Skip));
-    assert_eq!(by_plain(asked), jumping(asked));
-    let runs = [again(asked, by_proved), again(asked, by_plain), again(asked, hidden(jumping))];
-    Row { name, calls: CALLS, runs }
+fn falling(case: &'static str, book: Book) -> Row {
+    row("falls_on", case, CALLS, move || {
+        let file = book();
+        let asked: Asked = (file, records(file) - 1, DAY);
+        let by_plain = hidden(|(file, record, day): Asked| plain::falls_on(file, record, day, Skip));
+        let by_proved = again(asked, |(file, record, day)| proved::falls_on(file, record, day, Skip));
+        Cells { runs: [by_proved, again(asked, by_plain), None], size: by_record(file) }
+    })
+}
+
+/// For the book's last record.
+fn searching(case: &'static str, book: Book, from: u16) -> Row {
+    row("next_occurrence", case, CALLS, move || {
+        let file = book();
+        let asked: Asked = (file, records(file) - 1, from);
+        let by_proved = |(file, record, day): Asked| proved::next_occurrence(file, record, day, Skip);
+        let by_plain = hidden(|(file, record, day): Asked| plain::next_occurrence(file, record, day, Skip));
+        assert_eq!(by_plain(asked), jumping(asked));
+        let runs = [again(asked, by_proved), again(asked, by_plain), again(asked, hidden(jumping))];
+        let looked = by_plain(asked).expect("a right book").looked as usize;
+        let size = if records(file) == 1 { Some((looked, "day")) } else { by_record(file) };
+        Cells { runs, size }
+    })
 }
 
 /// From one occurrence to the next instead of day by day.
@@ -100,21 +145,23 @@ fn jumping((file, record, from): Asked) -> Result<Search, Refusal> {
 }
 
 pub fn rows() -> Vec<Row> {
-    let (full, one_day) = (full_book(), one_day());
-    let small = kept(book_near(DAY, 12, &mut Rng::new(1)).bytes);
-    // On 1 January 1980 only.
-    let ended = single(2, Field::Weekday, &[3], [80, 1, 1, 80, 1, 1]);
-    let leap_day = single(5, Field::MonthAndDay, &[2, 29], [196, 1, 1, 199, 12, 31]);
     vec![
-        printing("page of a small book", small),
-        printing("page of a full book", full),
-        counting("its number of lines", full),
-        last_line("its last line", full),
-        printing("page of all its records", one_day),
-        counting("its number of lines", one_day),
-        last_line("its last line", one_day),
-        searching("next, weekly and ended", ended, 1),
-        searching("next, 29 February 2096", leap_day, 0),
-        searching("next, in a full book", full, DAY),
+        falling("12 records", small_book),
+        falling("full, all kinds", full_book),
+        searching("weekly and ended", ended, 1),
+        searching("29 February 2096", leap_day, 0),
+        searching("full, all kinds", full_book, DAY),
+        counting("12 records", small_book),
+        counting("full, all kinds", full_book),
+        counting("full, all on the day", one_day),
+        last_line("12 records", small_book),
+        last_line("full, all kinds", full_book),
+        last_line("full, all on the day", one_day),
+        length("12 records", small_book),
+        length("full, all kinds", full_book),
+        length("full, all on the day", one_day),
+        printing("12 records", small_book),
+        printing("full, all kinds", full_book),
+        printing("full, all on the day", one_day),
     ]
 }

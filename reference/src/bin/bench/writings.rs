@@ -1,6 +1,6 @@
-//! Writing whole books.
+//! Writing: each call by itself, and whole books.
 
-use super::{kept, Row, Run};
+use super::{again, kept, row, Cells, Row, Run};
 use reference::book::{Settings, LONGEST};
 use reference::books::{letters, long, small, Draft};
 use reference::ffi::book::BookAnswer;
@@ -25,20 +25,62 @@ const SETTINGS: BookAnswer = BookAnswer {
     carry_forward: false,
 };
 
-/// Dated records to be added: 4,000 with a text of one byte, and 135 with notes of 440 bytes.
-struct Writings {
-    small: Vec<Item>,
-    long: Vec<Item>,
+/// Dated records to be added, with a text of one byte.
+fn small_ones(count: usize) -> &'static [Item] {
+    let mut rng = Rng::new(1);
+    let mut one = || Item::new(&Draft { text: letters(1, &mut rng), ..small(1, &mut rng) });
+    kept((0..count).map(|_| one()).collect::<Vec<_>>())
 }
 
-impl Writings {
-    fn random() -> Self {
-        let mut rng = Rng::new(1);
-        let mut one = || Item::new(&Draft { text: letters(1, &mut rng), ..small(1, &mut rng) });
-        let small = (0..4_000).map(|_| one()).collect();
-        let long = (0..135).map(|_| Item::new(&long(1, &mut rng))).collect();
-        Writings { small, long }
-    }
+/// With texts of 27 bytes and notes of 440.
+fn long_ones(count: usize) -> &'static [Item] {
+    let mut rng = Rng::new(1);
+    kept((0..count).map(|_| Item::new(&long(1, &mut rng))).collect::<Vec<_>>())
+}
+
+type Open = fn(Settings, &mut [u8]) -> Result<Writer, Refusal>;
+type Add = fn(Writer, &mut [u8], NewRecord) -> Result<Writer, Refusal>;
+type Close = fn(Writer, &mut [u8]) -> Result<Writer, Refusal>;
+
+fn hidden_calls() -> (Open, Add, Close) {
+    (black_box(plain::open), black_box(plain::add), black_box(plain::close))
+}
+
+/// Lends the same buffer to each call.
+fn lent<I: Copy + 'static, O>(input: I, call: impl Fn(I, &mut [u8]) -> O + 'static) -> Option<Run> {
+    let buffer = RefCell::new(vec![0; LONGEST]);
+    again(input, move |input| call(input, &mut buffer.borrow_mut()))
+}
+
+fn opening() -> Cells {
+    let open = hidden_calls().0;
+    let by_plain = lent(SETTINGS.settings(), move |settings, buffer| open(settings, buffer).expect("room"));
+    Cells { runs: [lent(SETTINGS, proved::open), by_plain, None], size: None }
+}
+
+/// To a book that was just opened.
+fn adding(item: &'static Item) -> Cells {
+    let add = hidden_calls().1;
+    let state = proved::open(SETTINGS, &mut [0; 15]);
+    let by_proved =
+        lent(item, move |item, buffer| proved::add(state, buffer, item.record, &item.text, &item.note));
+    let record =
+        NewRecord { flag: item.record.flag, entry: item.record.entry(), text: &item.text, note: &item.note };
+    let by_plain = lent(record, move |record, buffer| add(state.state(), buffer, record).expect("room"));
+    Cells { runs: [by_proved, by_plain, None], size: Some((item.bytes.len(), "byte written")) }
+}
+
+fn closing() -> Cells {
+    let close = hidden_calls().2;
+    let state = proved::open(SETTINGS, &mut [0; 15]);
+    let by_plain = lent(state.state(), move |state, buffer| close(state, buffer).expect("room"));
+    Cells { runs: [lent(state, proved::close), by_plain, None], size: None }
+}
+
+/// A call here is a whole book: open, all adds and close.
+fn whole(items: &'static [Item]) -> Cells {
+    let runs = [lent(items, by_proved), lent(items, by_plain), None];
+    Cells { runs, size: Some((by_plain(items, &mut [0; LONGEST]), "byte written")) }
 }
 
 fn by_proved(items: &[Item], buffer: &mut [u8]) -> usize {
@@ -51,13 +93,8 @@ fn by_proved(items: &[Item], buffer: &mut [u8]) -> usize {
     state.used
 }
 
-type Open = fn(Settings, &mut [u8]) -> Result<Writer, Refusal>;
-type Add = fn(Writer, &mut [u8], NewRecord) -> Result<Writer, Refusal>;
-type Close = fn(Writer, &mut [u8]) -> Result<Writer, Refusal>;
-
 fn by_plain(items: &[Item], buffer: &mut [u8]) -> usize {
-    let (open, add, close): (Open, Add, Close) =
-        (black_box(plain::open), black_box(plain::add), black_box(plain::close));
+    let (open, add, close) = hidden_calls();
     let write = |buffer: &mut [u8]| {
         let mut state = open(SETTINGS.settings(), buffer)?;
         for Item { record, text, note, .. } in items {
@@ -69,21 +106,13 @@ fn by_plain(items: &[Item], buffer: &mut [u8]) -> usize {
     write(buffer).expect("room").used
 }
 
-/// A call here is a whole book: open, all adds and close.
-fn again(items: &'static [Item], write: fn(&[Item], &mut [u8]) -> usize) -> Option<Run> {
-    let buffer = RefCell::new(vec![0; LONGEST]);
-    Some(Box::new(move |count| {
-        for _ in 0..count {
-            black_box(write(black_box(items), &mut buffer.borrow_mut()));
-        }
-    }))
-}
-
 pub fn rows() -> Vec<Row> {
-    let Writings { small, long } = kept(Writings::random());
-    let row = |name, items| {
-        let runs = [again(items, by_proved), again(items, by_plain), None];
-        Row { name, calls: CALLS, runs }
-    };
-    vec![row("4,000 records written", small), row("135 long ones written", long)]
+    vec![
+        row("open", "12 bytes", CALLS, opening),
+        row("add", "a record of 16 bytes", CALLS, || adding(&small_ones(1)[0])),
+        row("add", "a record of 482 bytes", CALLS, || adding(&long_ones(1)[0])),
+        row("close", "3 bytes", CALLS, closing),
+        row("open, add, close", "4,000 small records", CALLS, || whole(small_ones(4_000))),
+        row("open, add, close", "135 long records", CALLS, || whole(long_ones(135))),
+    ]
 }

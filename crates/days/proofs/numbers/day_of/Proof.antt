@@ -1,64 +1,70 @@
--- `day_of` meets its contract: the table's entry is the start of the date's month.
+-- `day_of` meets its contract: the closed form is the start of the date's month.
 -- Assumes nothing.
 use native.Mathlib.Omega.{arith}
-use mathlib.Core.Path.{_≡_}
-use lib.ListN.{getD}
-use Rattle.days.specs.Days.{monthStart, monthOf, dayNumber}
+use Rattle.days.specs.Days.{dayNumber}
 use Rattle.days.specs.DayLaws.{number-bound}
+use Rattle.days.proofs.MarchRule.{march-early, march-late}
 use borrow.Author.Needs.{needs}
 use Rattle.days.proofs.numbers.day_of.Statement.{statement}
 use Rattle.days.proofs.numbers.day_of.Tie as tie
 
-table-requires : tie.Need-table-requires
-table-requires c κs = search needs
+sub-days-from-march : tie.Need-sub-days-from-march
+sub-days-from-march c = search needs
 
-sub-year : tie.Need-sub-year
-sub-year c = search needs
+add-days-from-march : tie.Need-add-days-from-march
+add-days-from-march c = search needs
 
-sub-month : tie.Need-sub-month
-sub-month c = search needs
-
-sub-day : tie.Need-sub-day
-sub-day c = search needs
-
-mul-i : tie.Need-mul-i
-mul-i c = search needs
-
-add-i : tie.Need-add-i
-add-i c = search needs
-
-cast-i : tie.Need-cast-i
-cast-i c = search needs
-
-mul-result : tie.Need-mul-result
-mul-result c = search needs
-
-array-read-result : tie.Need-array-read-result
-array-read-result c = search needs
-
-start : (c : tie.After-table) → getD (c .table .result) (monthOf (c .before .args .d)) 0 ≡ monthStart (monthOf (c .before .args .d))
-start c = c .table .ensures .start (monthOf (c .before .args .d)) (omega arith)
+days-from-march-requires : tie.Need-days-from-march-requires
+days-from-march-requires c κs = search needs
 
 add-result : tie.Need-add-result
 unfolding dayNumber
-add-result c = omega (arith, start (c .before .before .before), number-bound (c .before .before .before .before .pre))
+add-result c =
+    let t = c .before .before .before .before in
+    let v = t .before .before .pre in
+    omega (arith, march-early v (t .if1 .taken), number-bound v)
+
+sub-result : tie.Need-sub-result
+sub-result c = search needs
 
 returns : tie.Need-returns
 unfolding dayNumber
-returns c = omega (arith, start (c .before .before .before))
+returns c =
+    let t = c .before .before .before .before in omega (arith, march-early (t .before .before .pre) (t .if1 .taken))
+
+sub-days-from-march-2 : tie.Need-sub-days-from-march-2
+sub-days-from-march-2 c = search needs
+
+days-from-march-requires-2 : tie.Need-days-from-march-requires-2
+days-from-march-requires-2 c κs = search needs
+
+add-result-2 : tie.Need-add-result-2
+unfolding dayNumber
+add-result-2 c =
+    let t = c .before .before .before in
+    let v = t .before .before .pre in
+    omega (arith, march-late v (t .if1 .left), number-bound v)
+
+sub-result-2 : tie.Need-sub-result-2
+sub-result-2 c = search needs
+
+returns-2 : tie.Need-returns-2
+unfolding dayNumber
+returns-2 c =
+    let t = c .before .before .before in omega (arith, march-late (t .before .before .pre) (t .if1 .left))
 
 pub day-of-spec : {M : Type 1} → statement M
 day-of-spec =
     tie.close
     (tie.spec
-    table-requires
-    sub-year
-    sub-month
-    sub-day
-    mul-i
-    add-i
-    cast-i
-    mul-result
-    array-read-result
+    sub-days-from-march
+    add-days-from-march
+    days-from-march-requires
     add-result
-    returns)
+    sub-result
+    returns
+    sub-days-from-march-2
+    days-from-march-requires-2
+    add-result-2
+    sub-result-2
+    returns-2)

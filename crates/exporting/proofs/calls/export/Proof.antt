@@ -1,6 +1,6 @@
 -- `export` meets its contract: the book decides, and demand 3 is the theorem of crate `export`, by `promised`.
 -- Assumes nothing.
-use mathlib.Core.Path.{_≡_, refl, sym, _∙_}
+use mathlib.Core.Path.{refl, sym, _∙_}
 use Rattle.export.specs.Export.{exportFrom, leaves, showsUnder}
 use Rattle.export.specs.Theorem.{promised}
 use Rattle.exporting.specs.ExportLaws.{answer-is, left-is}
@@ -29,9 +29,9 @@ returns c =
     let a = h .before .before .before in
     let r = a .before .before in
     let s = r .before .before .before .args in
-    let e = answer-is (showsUnder (s .c)) (s .file .now) (s .first) (s .count) (s .out .now) (sym (r .read-book .ensures) ∙ a .a .given .1) (h .export-in .ensures .0) in
-    let l = left-is (showsUnder (s .c)) (s .file .now) (s .first) (s .count) (s .out .now) e (h .export-in .ensures .1) in
-    (e, (l, promised (showsUnder (s .c)) (s .file .now) (s .first) (s .count) (s .out .now) e l))
+    let e = answer-is (showsUnder (s .c)) (s .file .now) (s .first .0) (s .count) (s .out .now) (sym (r .read-book .ensures) ∙ a .a .given .1) (h .export-in .ensures .0) in
+    let l = left-is (showsUnder (s .c)) (s .file .now) (s .first .0) (s .count) (s .out .now) e (h .export-in .ensures .1) in
+    (e, (l, promised (showsUnder (s .c)) (s .file .now) (s .first .0) (s .count) (s .out .now) e l))
 
 returns-2 : tie.Need-returns-2
 unfolding exportFrom leaves
@@ -39,9 +39,9 @@ returns-2 c =
     let a = c .before in
     let r = a .before .before in
     let s = r .before .before .before .args in
-    let e = answer-is (showsUnder (s .c)) (s .file .now) (s .first) (s .count) (s .out .now) (sym (r .read-book .ensures) ∙ a .a2 .given .1) refl in
-    let l = left-is (showsUnder (s .c)) (s .file .now) (s .first) (s .count) (s .out .now) e refl in
-    (e, (l, promised (showsUnder (s .c)) (s .file .now) (s .first) (s .count) (s .out .now) e l))
+    let e = answer-is (showsUnder (s .c)) (s .file .now) (s .first .0) (s .count) (s .out .now) (sym (r .read-book .ensures) ∙ a .a2 .given .1) refl in
+    let l = left-is (showsUnder (s .c)) (s .file .now) (s .first .0) (s .count) (s .out .now) e refl in
+    (e, (l, promised (showsUnder (s .c)) (s .file .now) (s .first .0) (s .count) (s .out .now) e l))
 
 pub export-spec : {M : Type 1} → statement M
 export-spec =

@@ -1,14 +1,12 @@
 -- `export_days` meets its contract: what is collected measures the export, the measure decides, and what fits is filled.
 -- Assumes nothing.
-use Prim.Native.Nat.{ℕ, _≤_, _<_}
-use mathlib.Core.Path.{_≡_, refl, sym, ap, _∙_}
-use mathlib.Core.Bool.{Bool, true, false}
-use mathlib.Core.List.{List}
+use Prim.Native.Nat.{ℕ}
+use mathlib.Core.Path.{_≡_, sym, ap, _∙_}
 use native.Mathlib.Omega.{arith}
 use lib.ListN.{length, take}
 use Rattle.prelude.specs.Splice.{splice}
 use Rattle.book.specs.BookLaws.{AcceptedBook, book-accepted}
-use Rattle.export.specs.Export.{exportDays, exportFile, tooFar, sized, leaves, showsUnder}
+use Rattle.export.specs.Export.{exportDays, exportFile, tooFar, leaves, showsUnder}
 use Rattle.export.specs.AnswerLaws.{sized-far, sized-short, sized-fits}
 use Rattle.export.specs.declared.types.ExportAnswer.{ExportAnswer}
 use Rattle.exporting.specs.ReadyLaws.{Gathered}

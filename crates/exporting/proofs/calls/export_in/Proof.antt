@@ -1,29 +1,26 @@
 -- `export_in` meets its contract: the span decides, and a span in range has its first day's facts.
 -- Assumes nothing.
-use Prim.Native.Nat.{ℕ, _+_, _≤_}
-use mathlib.Core.Path.{_≡_, refl, sym, ap, _∙_}
-use mathlib.Core.Bool.{true, false}
+use Prim.Native.Nat.{ℕ}
+use mathlib.Core.Path.{_≡_, sym, ap, _∙_}
+use mathlib.Core.Bool.{true}
 use native.Mathlib.Omega.{arith}
 use lib.ListN.{length}
 use Rattle.prelude.specs.Choice.{is-true, is-false}
 use Rattle.export.specs.Export.{spanOk, exportDays, exportFile, tooFar, sized, exportFrom, leaves, showsUnder}
 use Rattle.export.specs.AnswerLaws.{Span, span-facts}
-use Rattle.exporting.specs.ExportLaws.{First, first-facts, first-not}
+use Rattle.exporting.specs.ExportLaws.{first-facts, first-not}
 use borrow.Author.Needs.{needs}
 use Rattle.exporting.proofs.calls.export_in.Statement.{statement}
 use Rattle.exporting.proofs.calls.export_in.Tie as tie
 
-fine : (c : tie.Then1) → let a = c .before .before .before .before .args in spanOk (a .first) (a .count) ≡ true
+fine : (c : tie.Then1) → let a = c .before .before .before .before .args in spanOk (a .first .0) (a .count) ≡ true
 fine c = sym (c .before .span-ok .ensures) ∙ c .if1 .taken
 
-span : (c : tie.Then1) → let a = c .before .before .before .before .args in Span (a .first) (a .count)
+span : (c : tie.Then1) → let a = c .before .before .before .before .args in Span (a .first .0) (a .count)
 span c = span-facts (fine c)
 
 span-ok-requires : tie.Need-span-ok-requires
 span-ok-requires c κs = search needs
-
-cast-t12 : tie.Need-cast-t12
-cast-t12 c = omega (arith, span c)
 
 facts-of-day-requires : tie.Need-facts-of-day-requires
 facts-of-day-requires c κs = search needs
@@ -37,7 +34,7 @@ export-span-requires c κs =
     let f = a .before .before in
     let t = f .before in
     let s = t .before .before .before .before in
-    let g = first-facts (s .args .first) (sym (f .facts-of-day .ensures) ∙ a .a .given .1) in
+    let g = first-facts (s .args .first .0) (sym (f .facts-of-day .ensures) ∙ a .a .given .1) in
     let p = span t in
     (s .pre, (g .facts, (omega (arith, g .day, p .end), p .most)))
 
@@ -58,7 +55,7 @@ returns c =
     let f = a .before .before in
     let t = f .before in
     let s = t .before .before .before .before .args in
-    let d = first-facts (s .first) (sym (f .facts-of-day .ensures) ∙ a .a .given .1) .day in (
+    let d = first-facts (s .first .0) (sym (f .facts-of-day .ensures) ∙ a .a .given .1) .day in (
       h .export-span .ensures .0
           ∙ ap (λ (n : ℕ). sized (length (s .out .now)) (tooFar (exportDays (showsUnder (s .c)) (s .file .now) n (s .count))) (length (exportFile (showsUnder (s .c)) (s .file .now) n (s .count)))) d
           ∙ sym (is-true (fine t) _ _),
@@ -70,7 +67,7 @@ returns-2 c =
     let a = c .before in
     let f = a .before .before in
     let t = f .before in
-    absurd (first-not (t .before .before .before .before .args .first) (span t .day) (sym (f .facts-of-day .ensures) ∙ a .a2 .given .1))
+    absurd (first-not (t .before .before .before .before .args .first .0) (span t .day) (sym (f .facts-of-day .ensures) ∙ a .a2 .given .1))
 
 returns-3 : tie.Need-returns-3
 unfolding exportFrom leaves
@@ -83,7 +80,6 @@ export-in-spec =
     tie.close
     (tie.spec
     span-ok-requires
-    cast-t12
     facts-of-day-requires
     enum-known-a
     export-span-requires

@@ -1,10 +1,9 @@
 -- `add_hits` meets its contract: the days behind have their weight, those ahead not yet, and none between is missed.
 -- Assumes nothing.
-use Prim.Native.Nat.{ℕ, _+_, _-_, _<_, _≤_}
+use Prim.Native.Nat.{_-_, _<_, _≤_}
 use mathlib.Core.Path.{_≡_, refl}
-use mathlib.Core.Bool.{Bool, true}
+use mathlib.Core.Bool.{true}
 use native.Mathlib.Omega.{arith}
-use borrow.Author.Needs.{needs}
 use lib.ListN.{length, getD}
 use Rattle.spans.specs.Rules.{ruleShows}
 use Rattle.exporting.specs.Scatter.{Added}

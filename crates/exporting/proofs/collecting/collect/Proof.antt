@@ -1,12 +1,11 @@
 -- `collect` meets its contract: a record that shows is taken in, another is passed, by the laws of `Collecting`.
 -- Assumes nothing.
-use Prim.Native.Nat.{ℕ, _-_, _≤_}
+use Prim.Native.Nat.{_-_, _≤_}
 use mathlib.Core.Path.{_≡_, refl, sym, _∙_}
 use native.Mathlib.Omega.{arith}
 use lib.ListN.{length, length-set}
 use Rattle.book.specs.CountLaws.{count-most}
 use Rattle.exporting.specs.Scatter.{Below}
-use Rattle.exporting.specs.Passes.{Sound}
 use Rattle.exporting.specs.CollectLaws.{Collecting, collect-start, collect-sound, collect-skip, collect-take, collect-end}
 use Rattle.exporting.proofs.collecting.collect.Statement.{statement}
 use Rattle.exporting.proofs.collecting.collect.Tie as tie

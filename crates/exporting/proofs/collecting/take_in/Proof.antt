@@ -1,6 +1,6 @@
 -- `take_in` meets its contract: the record's hours and text make its weight and its code.
 -- Assumes nothing.
-use Prim.Native.Nat.{ℕ, _+_, _*_, _≤_}
+use Prim.Native.Nat.{_≤_}
 use mathlib.Core.Path.{_≡_, sym, ap, _∙_}
 use native.Mathlib.Omega.{arith}
 use Rattle.records.specs.declared.types.Stretch.{Stretch}
@@ -8,7 +8,6 @@ use Rattle.falls.specs.declared.types.Times.{Times}
 use Rattle.pages.specs.PageLaws.{recordAt}
 use Rattle.pages.specs.Codes.{codeWith}
 use Rattle.pages.specs.CodeLaws.{code-at}
-use Rattle.export.specs.Export.{bit}
 use Rattle.export.specs.AppointmentLaws.{bit-most}
 use Rattle.exporting.specs.Passes.{weighs}
 use borrow.Author.Needs.{needs}

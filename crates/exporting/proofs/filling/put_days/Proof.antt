@@ -1,13 +1,13 @@
 -- `put_days` meets its contract: the blocks stand empty, and each record puts its appointment on its days, by the laws of `Ready`.
 -- Assumes nothing.
-use Prim.Native.Nat.{ℕ, _+_, _-_, _*_, _≤_}
-use mathlib.Core.Path.{_≡_, refl, sym, _∙_}
+use Prim.Native.Nat.{_+_, _-_, _*_, _≤_}
+use mathlib.Core.Path.{_≡_, sym, _∙_}
 use native.Mathlib.Omega.{arith}
 use lib.ListN.{length}
 use Rattle.exporting.specs.Sums.{rows, unitsTo, noneYet}
 use Rattle.exporting.specs.Passes.{soFar}
 use Rattle.exporting.specs.FillLaws.{Filled, filled-self, filled-over}
-use Rattle.exporting.specs.ReadyLaws.{Ready, ready-days, ready-sound, ready-long, blank-long, ready-start, ready-room, ready-next, ready-whole}
+use Rattle.exporting.specs.ReadyLaws.{ready-days, ready-sound, ready-long, blank-long, ready-start, ready-room, ready-next, ready-whole}
 use Rattle.exporting.proofs.filling.put_days.Statement.{statement}
 use Rattle.exporting.proofs.filling.put_days.Tie as tie
 

@@ -1,7 +1,7 @@
 -- `put_blank` meets its contract: nothing, or the five words and zeros.
 -- Assumes nothing.
 use Prim.Native.Nat.{_-_, _*_}
-use mathlib.Core.Path.{sym, ap}
+use mathlib.Core.Path.{sym}
 use mathlib.Core.List.{[], _++_}
 use native.Mathlib.Omega.{arith}
 use Rattle.prelude.specs.Grown.{Grown, start, space, space-last, grow, turn, finish-last}

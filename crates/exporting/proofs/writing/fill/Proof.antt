@@ -1,14 +1,11 @@
 -- `fill` meets its contract: the codes are ordered, and the file is put.
 -- Assumes nothing.
-use Prim.Native.Nat.{ℕ, _+_, _≤_}
 use mathlib.Core.Path.{_≡_, sym, ap, _∙_}
-use mathlib.Core.List.{List}
 use native.Mathlib.Omega.{arith}
 use lib.ListN.{length, take}
 use lib.Seq.{length-take-le}
 use Rattle.prelude.specs.Splice.{splice}
 use Rattle.book.specs.Settings.{settingsOf}
-use Rattle.book.specs.declared.types.Settings.{Settings}
 use Rattle.pages.specs.CodeLaws.{ordered-front}
 use Rattle.export.specs.Export.{settingsFor}
 use Rattle.exporting.specs.ReadyLaws.{Ready, ordered}

@@ -8,10 +8,10 @@ use lib.ListN.{length}
 use Rattle.prelude.specs.Grown.{Grown, start, space, space-last, grow, turn, finish-last}
 use Rattle.calendar.specs.File.{Day, zeros, headBytes, fileOf}
 use Rattle.export.specs.Export.{appointmentsFor, daysWith, showsUnder}
-use Rattle.export.specs.SizeLaws.{length-head}
+use Rattle.calendar.specs.FileLaws.{length-head}
 use Rattle.exporting.specs.Sums.{sumTable, rows}
 use Rattle.exporting.specs.Passes.{soFar}
-use Rattle.exporting.specs.ReadyLaws.{Ready, ready-few, ready-table, ready-file}
+use Rattle.exporting.specs.ReadyLaws.{ready-few, ready-table, ready-file}
 use borrow.Author.Needs.{needs}
 use Rattle.exporting.proofs.writing.put_file.Statement.{statement}
 use Rattle.exporting.proofs.writing.put_file.Tie as tie

@@ -1,20 +1,18 @@
 -- `collect` meets its contract: the codes so far, and those of the records ahead that fall on the day, are all there are.
 -- Assumes nothing.
-use Prim.Native.Nat.{ℕ, suc, _+_, _-_, _<_, _≤_}
+use Prim.Native.Nat.{ℕ, suc, _+_, _-_, _≤_}
 use mathlib.Core.Path.{_≡_, refl, sym, _∙_, ap}
 use mathlib.Core.Bool.{Bool}
-use mathlib.Core.List.{List, [], _∷_, _++_, map}
+use mathlib.Core.List.{List, _∷_, _++_, map}
 use native.Mathlib.Omega.{arith}
 use native.Mathlib.Numerals.{add-one}
 use lib.ListN.{length, take, length-set}
-use lib.Seq.{take-suc-set}
 use Rattle.prelude.specs.Keep.{keep}
-use Rattle.book.specs.BookLaws.{Cursor, cursor-first}
-use Rattle.falls.specs.declared.types.Times.{Times}
+use Rattle.book.specs.BookLaws.{Cursor, cursor-first, cursor-ahead}
 use Rattle.pages.specs.Pages.{Numbered, numbered, fallsOn}
 use Rattle.pages.specs.Codes.{codeWith, code}
 use Rattle.pages.specs.CodeLaws.{code-at, push, none-left}
-use Rattle.pages.specs.PageLaws.{ReadyBook, numberedAt, numbered-first, recordAt, Turn, turn, turn-yes, turn-no, turn-end}
+use Rattle.pages.specs.PageLaws.{numberedAt, numbered-first, recordAt, Turn, turn, turn-yes, turn-no, turn-end}
 use Rattle.pages.proofs.collecting.collect.Statement.{statement}
 use Rattle.pages.proofs.collecting.collect.Tie as tie
 
@@ -32,7 +30,7 @@ file c = c .before .before .before .args .file .now
 abbrev falling : tie.After-f Inv-loop μ-loop → Numbered → Bool
 falling c = fallsOn (c .before .before .before .args .c) (c .before .before .before .args .a .facts)
 
-turned : (c : tie.After-next-place Inv-loop μ-loop) → Turn (file (c .before .before .before .before)) (c .before .before .before .loop .n) (c .before .before .before .loop .at)
+turned : (c : tie.After-place-after Inv-loop μ-loop) → Turn (file (c .before .before .before .before)) (c .before .before .before .loop .n) (c .before .before .before .loop .at)
 turned c = turn _ _ _ (c .before .before .before .loop .inv .0) (omega arith)
 
 loop-holds : tie.Need-loop-holds Inv-loop μ-loop
@@ -44,17 +42,17 @@ loop-holds c = (
   ap (λ (xs : List Numbered). map code (keep (falling c) xs)) (numbered-first (file c)),
 )
 
-next-place-requires : tie.Need-next-place-requires Inv-loop μ-loop
-next-place-requires c κs = c .before .before .loop .inv .0 .here .high
+place-after-requires : tie.Need-place-after-requires Inv-loop μ-loop
+place-after-requires c κs = cursor-ahead _ _ _ (c .before .before .loop .inv .0) (omega arith) .entry
 
 add-n : tie.Need-add-n Inv-loop μ-loop
 add-n c = omega arith
 
 falls-at-requires : tie.Need-falls-at-requires Inv-loop μ-loop
-falls-at-requires c κs = let h = c .before .before .before .loop .inv .0 .here in omega arith
+falls-at-requires c κs = cursor-ahead _ _ _ (c .before .before .before .loop .inv .0) (omega arith) .entry
 
-times-at-requires : tie.Need-times-at-requires Inv-loop μ-loop
-times-at-requires c κs = let h = c .before .before .before .before .before .loop .inv .0 .here in omega arith
+start-at-requires : tie.Need-start-at-requires Inv-loop μ-loop
+start-at-requires c κs = cursor-ahead _ _ _ (c .before .before .before .before .before .loop .inv .0) (omega arith) .entry
 
 code-of-requires : tie.Need-code-of-requires Inv-loop μ-loop
 code-of-requires c κs = let h = c .before .before .before .before .before .before .loop .inv .0 .here in (omega arith, omega arith)
@@ -78,9 +76,9 @@ loop-again c =
     let t = turned (c .before .before .before .before) in
     let e = turn-yes (file (l .before)) (l .loop .n) (l .loop .at) t (falling (l .before)) (sym (c .before .before .before .falls-at .ensures) ∙ c .before .before .if2 .taken) in
     let v : c .code-of .result ≡ code (recordAt (file (l .before)) (l .loop .n) (l .loop .at)) =
-    c .code-of .ensures ∙ ap (λ (x : Times). codeWith (x .start .0) (l .loop .n) (l .loop .at)) (c .before .times-at .ensures) ∙ sym (code-at (file (l .before)) (l .loop .n) (l .loop .at) (omega arith) (omega arith)) in
+    c .code-of .ensures ∙ ap (λ (x : ℕ). codeWith x (l .loop .n) (l .loop .at)) (c .before .start-at .ensures) ∙ sym (code-at (file (l .before)) (l .loop .n) (l .loop .at) (omega arith) (omega arith)) in
     let w = l .loop .inv .4 ∙ ap (λ (xs : List Numbered). take (l .loop .count) (l .loop .codes) ++ map code xs) e ∙ ap (λ (x : ℕ). take (l .loop .count) (l .loop .codes) ++ (x ∷ map code (keep (falling (l .before)) (numberedAt (file (l .before)) (suc (l .loop .n)))))) (sym v) in
-    rw (add-one (l .loop .n), c .before .before .before .before .next-place .ensures) (t .next, omega arith, omega arith, length-set (l .loop .codes) (l .loop .count) (c .code-of .result) ∙ l .loop .inv .3, push (l .loop .codes) (l .loop .count) _ _ _ (omega arith) w)
+    rw (add-one (l .loop .n), c .before .before .before .before .place-after .ensures) (t .next, omega arith, omega arith, length-set (l .loop .codes) (l .loop .count) (c .code-of .result) ∙ l .loop .inv .3, push (l .loop .codes) (l .loop .count) _ _ _ (omega arith) w)
 
 loop-less-2 : tie.Need-loop-less-2 Inv-loop μ-loop
 loop-less-2 c = omega arith
@@ -91,7 +89,7 @@ loop-again-2 c =
     let t = turned (c .before .before) in
     let e = turn-no (file (l .before)) (l .loop .n) (l .loop .at) t (falling (l .before)) (sym (c .before .falls-at .ensures) ∙ c .if2 .left) in
     let w = l .loop .inv .4 ∙ ap (λ (xs : List Numbered). take (l .loop .count) (l .loop .codes) ++ map code xs) e in
-    rw (add-one (l .loop .n), c .before .before .next-place .ensures) (t .next, omega arith, omega arith, l .loop .inv .3, w)
+    rw (add-one (l .loop .n), c .before .before .place-after .ensures) (t .next, omega arith, omega arith, l .loop .inv .3, w)
 
 same-length : tie.Need-same-length Inv-loop μ-loop
 same-length c = c .before .before .loop .inv .3
@@ -109,10 +107,10 @@ collect-spec =
     Inv-loop
     μ-loop
     loop-holds
-    next-place-requires
+    place-after-requires
     add-n
     falls-at-requires
-    times-at-requires
+    start-at-requires
     code-of-requires
     mul-codes
     slice-write-codes

@@ -1,7 +1,7 @@
 -- `count_lines` meets its contract: so many are counted, and so many of the records ahead fall on the day.
 -- Assumes nothing.
-use Prim.Native.Nat.{ℕ, _+_, _-_, _<_, _≤_}
-use mathlib.Core.Path.{_≡_, refl, sym, _∙_, ap}
+use Prim.Native.Nat.{ℕ, _+_, _-_, _≤_}
+use mathlib.Core.Path.{_≡_, sym, _∙_, ap}
 use mathlib.Core.Bool.{Bool}
 use mathlib.Core.List.{List}
 use native.Mathlib.Omega.{arith}
@@ -9,10 +9,9 @@ use native.Mathlib.Nat.{zero-add}
 use native.Mathlib.Numerals.{add-one}
 use lib.ListN.{length}
 use Rattle.prelude.specs.Keep.{keep}
-use Rattle.book.specs.Books.{placesOf}
-use Rattle.book.specs.BookLaws.{Cursor, cursor-first}
+use Rattle.book.specs.BookLaws.{Cursor, cursor-first, cursor-ahead}
 use Rattle.pages.specs.Pages.{Numbered, numbered, fallsOn}
-use Rattle.pages.specs.PageLaws.{ReadyBook, numberedAt, numbered-first, Turn, turn, turn-yes, turn-no, turn-end, length-page}
+use Rattle.pages.specs.PageLaws.{numberedAt, numbered-first, Turn, turn, turn-yes, turn-no, turn-end, length-page}
 use Rattle.pages.proofs.collecting.count_lines.Statement.{statement}
 use Rattle.pages.proofs.collecting.count_lines.Tie as tie
 
@@ -30,7 +29,7 @@ file c = c .before .before .args .file .now
 abbrev falling : tie.After-f Inv-loop μ-loop → Numbered → Bool
 falling c = fallsOn (c .before .before .args .c) (c .before .before .args .a .facts)
 
-turned : (c : tie.After-next-place Inv-loop μ-loop) → Turn (file (c .before .before .before .before)) (c .before .before .before .loop .n) (c .before .before .before .loop .at)
+turned : (c : tie.After-place-after Inv-loop μ-loop) → Turn (file (c .before .before .before .before)) (c .before .before .before .loop .n) (c .before .before .before .loop .at)
 turned c = turn _ _ _ (c .before .before .before .loop .inv .0) (omega arith)
 
 loop-holds : tie.Need-loop-holds Inv-loop μ-loop
@@ -41,14 +40,14 @@ loop-holds c = (
   ap (λ (xs : List Numbered). length (keep (fallsOn (c .before .before .args .c) (c .before .before .args .a .facts)) xs)) (numbered-first (file c)) ∙ sym (zero-add _),
 )
 
-next-place-requires : tie.Need-next-place-requires Inv-loop μ-loop
-next-place-requires c κs = c .before .before .loop .inv .0 .here .high
+place-after-requires : tie.Need-place-after-requires Inv-loop μ-loop
+place-after-requires c κs = cursor-ahead _ _ _ (c .before .before .loop .inv .0) (omega arith) .entry
 
 add-n : tie.Need-add-n Inv-loop μ-loop
 add-n c = omega arith
 
 falls-at-requires : tie.Need-falls-at-requires Inv-loop μ-loop
-falls-at-requires c κs = let h = c .before .before .before .loop .inv .0 .here in omega arith
+falls-at-requires c κs = cursor-ahead _ _ _ (c .before .before .before .loop .inv .0) (omega arith) .entry
 
 add-count : tie.Need-add-count Inv-loop μ-loop
 add-count c = omega arith
@@ -61,7 +60,7 @@ loop-again c =
     let l = c .before .before .before .before .before in
     let t = turned (c .before .before) in
     let e = ap (length {A = Numbered}) (turn-yes (file (l .before)) (l .loop .n) (l .loop .at) t (falling (l .before)) (sym (c .before .falls-at .ensures) ∙ c .if2 .taken)) in
-    rw (add-one (l .loop .n), c .before .before .next-place .ensures) (t .next, omega arith, omega arith, omega (arith, l .loop .inv .3, e))
+    rw (add-one (l .loop .n), c .before .before .place-after .ensures) (t .next, omega arith, omega arith, omega (arith, l .loop .inv .3, e))
 
 loop-less-2 : tie.Need-loop-less-2 Inv-loop μ-loop
 loop-less-2 c = omega arith
@@ -71,7 +70,7 @@ loop-again-2 c =
     let l = c .before .before .before .before .before in
     let t = turned (c .before .before) in
     let e = ap (length {A = Numbered}) (turn-no (file (l .before)) (l .loop .n) (l .loop .at) t (falling (l .before)) (sym (c .before .falls-at .ensures) ∙ c .if2 .left)) in
-    rw (add-one (l .loop .n), c .before .before .next-place .ensures) (t .next, omega arith, omega arith, omega (arith, l .loop .inv .3, e))
+    rw (add-one (l .loop .n), c .before .before .place-after .ensures) (t .next, omega arith, omega arith, omega (arith, l .loop .inv .3, e))
 
 returns : tie.Need-returns Inv-loop μ-loop
 returns c =
@@ -86,7 +85,7 @@ count-lines-spec =
     Inv-loop
     μ-loop
     loop-holds
-    next-place-requires
+    place-after-requires
     add-n
     falls-at-requires
     add-count

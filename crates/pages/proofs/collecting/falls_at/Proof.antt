@@ -5,26 +5,14 @@ use borrow.Author.Needs.{needs}
 use Rattle.pages.proofs.collecting.falls_at.Statement.{statement}
 use Rattle.pages.proofs.collecting.falls_at.Tie as tie
 
-byte-requires : tie.Need-byte-requires
-byte-requires c κs = search needs
+shared-slice-read-falls-quickly : tie.Need-shared-slice-read-falls-quickly
+shared-slice-read-falls-quickly c = search needs
 
-add-word : tie.Need-add-word
-add-word c = search needs
+body-at-requires : tie.Need-body-at-requires
+body-at-requires c κs = search needs
 
-word-requires : tie.Need-word-requires
-word-requires c κs = search needs
-
-cast-l : tie.Need-cast-l
-cast-l c = search needs
-
-add-part : tie.Need-add-part
-add-part c = search needs
-
-part-requires : tie.Need-part-requires
-part-requires c κs = search needs
-
-falls-on-requires : tie.Need-falls-on-requires
-falls-on-requires c κs = search needs
+falls-quickly-requires : tie.Need-falls-quickly-requires
+falls-quickly-requires c κs = search needs
 
 returns : tie.Need-returns
 unfolding entryAt
@@ -32,13 +20,4 @@ returns c = cc
 
 pub falls-at-spec : {M : Type 1} → statement M
 falls-at-spec =
-    tie.close
-    (tie.spec
-    byte-requires
-    add-word
-    word-requires
-    cast-l
-    add-part
-    part-requires
-    falls-on-requires
-    returns)
+    tie.close (tie.spec shared-slice-read-falls-quickly body-at-requires falls-quickly-requires returns)

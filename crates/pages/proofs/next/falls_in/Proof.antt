@@ -1,9 +1,10 @@
 -- `falls_in` meets its contract: the record of that number, by `nth-record`, or none.
 -- Assumes nothing.
-use mathlib.Core.Path.{_≡_, sym, _∙_, ap}
+use mathlib.Core.Path.{sym, _∙_, ap}
 use native.Mathlib.Omega.{arith}
 use Prim.Native.Nat.{ℕ}
 use Rattle.book.specs.Books.{entryAt}
+use Rattle.book.specs.EntryLaws.{record-there}
 use Rattle.falls.specs.Falls.{falls}
 use Rattle.pages.specs.Answers.{fallsIn}
 use Rattle.pages.specs.NthLaws.{nth-record, nth-no-record}
@@ -15,18 +16,20 @@ use Rattle.pages.proofs.next.falls_in.Tie as tie
 place-of-requires : tie.Need-place-of-requires
 place-of-requires c κs = search needs
 
-falls-at-requires : tie.Need-falls-at-requires
-falls-at-requires c κs = search needs
+falls-there-requires : tie.Need-falls-there-requires
+falls-there-requires c κs =
+    let a = c .before .before .before .before .before in
+    rw (c .before .place-of .ensures .0) (record-there _ (a .pre .long) _ (omega arith))
 
 returns : tie.Need-returns
 unfolding fallsIn
 returns c =
     let a = c .before .before .before .before .before in
-    ap FallsAnswer.Falls (c .falls-at .ensures ∙ ap (λ (q : ℕ). falls (a .before .args .c) (a .before .args .a .facts) (entryAt (a .before .args .file .now) q .«record»)) (c .before .before .place-of .ensures .0)) ∙ sym (nth-record _ _ _ _ (omega arith))
+    ap FallsAnswer.Falls (c .falls-there .ensures ∙ ap (λ (q : ℕ). falls (a .before .args .c) (a .before .args .a .facts) (entryAt (a .before .args .file .now) q .«record»)) (c .before .before .place-of .ensures .0)) ∙ sym (nth-record _ _ _ _ (omega arith))
 
 returns-2 : tie.Need-returns-2
 unfolding fallsIn
 returns-2 c = sym (nth-no-record _ _ _ _ (omega arith))
 
 pub falls-in-spec : {M : Type 1} → statement M
-falls-in-spec = tie.close (tie.spec place-of-requires falls-at-requires returns returns-2)
+falls-in-spec = tie.close (tie.spec place-of-requires falls-there-requires returns returns-2)

@@ -1,6 +1,5 @@
 -- `next_in` meets its contract: the record of that number, by `nth-record`, searched from the asked day, or none.
 -- Assumes nothing.
-use Prim.Native.Nat.{ℕ}
 use mathlib.Core.Path.{_≡_, sym, _∙_, ap}
 use native.Mathlib.Omega.{arith}
 use lib.ListN.{getD}
@@ -9,12 +8,19 @@ use Rattle.book.specs.Books.{entryAt, placesOf}
 use Rattle.falls.specs.Falls.{falls}
 use Rattle.records.specs.declared.types.Record.{Record}
 use Rattle.records.specs.Fields.{recordOf}
+use Rattle.records.specs.Ranges.{recordOk}
 use Rattle.pages.specs.Answers.{nextIn}
 use Rattle.pages.specs.Next.{nextOf}
 use Rattle.pages.specs.NthLaws.{nth-record, nth-no-record}
+use Rattle.pages.specs.SearchLaws.{record-sound}
 use borrow.Author.Needs.{needs}
 use Rattle.pages.proofs.next.next_in.Statement.{statement}
 use Rattle.pages.proofs.next.next_in.Tie as tie
+
+-- the record that is read is the book's of that number
+read : (b : tie.After-part) → (let a = b .before .before .before .before .before .before .before .args in recordOf (b .before .before .byte .result) (b .part .result .now) ≡ entryAt (a .file .now) (getD (placesOf (a .file .now)) (a .k) 0) .«record»)
+unfolding entryAt
+read b = cc
 
 place-of-requires : tie.Need-place-of-requires
 place-of-requires c κs = search needs
@@ -38,18 +44,20 @@ part-requires : tie.Need-part-requires
 part-requires c κs = search needs
 
 search-on-requires : tie.Need-search-on-requires
-search-on-requires c κs = search needs
+search-on-requires c κs =
+    let s = c .before .before .before .before .before .before .before .before in
+    let r = s .pre in
+    (record { facts = r .facts; high = r .day }, ap recordOk (read (c .before)) ∙ record-sound _ (r .long) _ (omega arith))
 
 returns : tie.Need-returns
-unfolding nextIn entryAt
+unfolding nextIn
 returns c =
     let b = c .before .before in
     let a = b .before .before .before .before .before .before .before .args in
-    let e : recordOf (b .before .before .byte .result) (b .part .result .now) ≡ entryAt (a .file .now) (getD (placesOf (a .file .now)) (a .k) 0) .«record» = cc in
-    c .search-on .ensures ∙ ap (λ (x : Record). nextOf (λ d. falls (a .c) (factsOf d) x) (a .a .facts .day .0)) e ∙ sym (nth-record _ _ _ _ (omega arith))
+    c .search-on .ensures ∙ ap (λ (x : Record). nextOf (λ d. falls (a .c) (factsOf d) x) (a .a .facts .day .0)) (read b) ∙ sym (nth-record _ _ _ _ (omega arith))
 
 returns-2 : tie.Need-returns-2
-unfolding nextIn entryAt
+unfolding nextIn
 returns-2 c = sym (nth-no-record _ _ _ _ (omega arith))
 
 pub next-in-spec : {M : Type 1} → statement M

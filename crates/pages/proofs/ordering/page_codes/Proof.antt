@@ -1,6 +1,6 @@
 -- `page_codes` meets its contract: collected in the book's order, then ordered, by `page-codes`.
 -- Assumes nothing.
-use mathlib.Core.Path.{_≡_, sym, _∙_, ap}
+use mathlib.Core.Path.{sym, _∙_, ap}
 use native.Mathlib.Omega.{arith}
 use Rattle.pages.specs.CodeLaws.{page-codes, ordered-front}
 use Rattle.order.specs.Codes.{high}

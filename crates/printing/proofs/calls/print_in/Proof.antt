@@ -1,34 +1,54 @@
--- `print_in` meets its contract: the room decides both the answer and the buffer.
+-- `print_in` meets its contract: either working space has room for all records.
 -- Assumes nothing.
-use mathlib.Core.Path.{refl, _∙_, ap}
 use native.Mathlib.Omega.{arith}
-use native.Mathlib.Nat.{zero-add}
+use Rattle.pages.specs.PageLaws.{ready-most}
 use borrow.Author.Needs.{needs}
-use Rattle.prelude.specs.Choice.{lt-yes, lt-no}
-use Rattle.pages.specs.declared.types.CountAnswer.{CountAnswer}
-use Rattle.printing.specs.Answers.{printIn, printLeaves}
 use Rattle.printing.proofs.calls.print_in.Statement.{statement}
 use Rattle.printing.proofs.calls.print_in.Tie as tie
 
-page-size-requires : tie.Need-page-size-requires
-page-size-requires c κs = search needs
+slice-aggregate-print-with : tie.Need-slice-aggregate-print-with
+slice-aggregate-print-with c = search needs
 
-returns : tie.Need-returns
-unfolding printIn printLeaves
-returns c = (lt-yes _ _ _ (omega arith) refl, lt-yes _ _ _ (omega arith) refl)
+slice-aggregate-print-with-2 : tie.Need-slice-aggregate-print-with-2
+slice-aggregate-print-with-2 c = search needs
 
-put-page-requires : tie.Need-put-page-requires
-put-page-requires c κs = search needs
+print-with-requires : tie.Need-print-with-requires
+print-with-requires c κs = search needs
 
 same-length : tie.Need-same-length
 same-length c = search needs
 
+returns : tie.Need-returns
+returns c = search needs
+
+slice-aggregate-print-with-3 : tie.Need-slice-aggregate-print-with-3
+slice-aggregate-print-with-3 c = search needs
+
+slice-aggregate-print-with-4 : tie.Need-slice-aggregate-print-with-4
+slice-aggregate-print-with-4 c = search needs
+
+print-with-requires-2 : tie.Need-print-with-requires-2
+print-with-requires-2 c κs =
+    let s = c .before .before .before .before .before .before .before in
+    (s .pre, (ready-most (s .pre), omega arith))
+
+same-length-2 : tie.Need-same-length-2
+same-length-2 c = search needs
+
 returns-2 : tie.Need-returns-2
-unfolding printIn printLeaves
-returns-2 c =
-    let p = c .before .before in
-    (lt-no _ _ _ (omega arith) (ap CountAnswer.Count (p .put-page .ensures .0 ∙ zero-add _)), lt-no _ _ _ (omega arith) (p .put-page .ensures .1))
+returns-2 c = search needs
 
 pub print-in-spec : {M : Type 1} → statement M
 print-in-spec =
-    tie.close (tie.spec page-size-requires returns put-page-requires same-length returns-2)
+    tie.close
+    (tie.spec
+    slice-aggregate-print-with
+    slice-aggregate-print-with-2
+    print-with-requires
+    same-length
+    returns
+    slice-aggregate-print-with-3
+    slice-aggregate-print-with-4
+    print-with-requires-2
+    same-length-2
+    returns-2)

@@ -1,4 +1,4 @@
--- `next_after` meets its contract: the days of the wait do not show, by `spanned-not`, and then `next_from` goes on.
+-- `next_after` meets its contract: the days of the wait do not show, by `spanned-not`, and then `wait_from` goes on.
 -- Assumes nothing.
 use Prim.Native.Nat.{_+_}
 use mathlib.Core.Path.{_≡_}
@@ -27,8 +27,8 @@ cast-from c = search needs
 add-from : tie.Need-add-from
 add-from c = search needs
 
-next-from-requires : tie.Need-next-from-requires
-next-from-requires c κs = search needs
+wait-from-requires : tie.Need-wait-from-requires
+wait-from-requires c κs = search needs
 
 returns : tie.Need-returns
 returns c =
@@ -36,7 +36,7 @@ returns c =
     let s = c .before .before .before .before in
     let a = s .args in
     let days = a .days .now in
-    let n = c .next-from .ensures in
+    let n = c .wait-from .ensures in
     let least = wait-least (a .r) (getD days (a .j) 0) in
     record {
       low = omega (arith, n .low, least, w .ensures, s .pre .1);
@@ -58,5 +58,5 @@ next-after-spec =
     wait-for-requires
     cast-from
     add-from
-    next-from-requires
+    wait-from-requires
     returns)

@@ -10,9 +10,8 @@ use lib.Seq.{getD-set-same, getD-set-other}
 use Rattle.prelude.specs.Choice.{lt-elim}
 use Rattle.days.specs.Facts.{factsOf, nextFacts}
 use Rattle.days.specs.FactsLaws.{facts-next}
-use Rattle.days.specs.declared.types.DayFacts.{DayFacts}
 use Rattle.spans.specs.Codes.{dayCode}
-use Rattle.spans.specs.CodeLaws.{Known, facts-known}
+use Rattle.spans.specs.CodeLaws.{facts-known}
 use Rattle.spans.proofs.packing.pack_days.Statement.{statement}
 use Rattle.spans.proofs.packing.pack_days.Tie as tie
 

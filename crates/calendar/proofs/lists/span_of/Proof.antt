@@ -2,8 +2,8 @@
 -- Assumes nothing.
 use native.Mathlib.Omega.{arith}
 use borrow.Author.Needs.{needs}
-use Rattle.calendar.proofs.reading.span_of.Statement.{statement}
-use Rattle.calendar.proofs.reading.span_of.Tie as tie
+use Rattle.calendar.proofs.lists.span_of.Statement.{statement}
+use Rattle.calendar.proofs.lists.span_of.Tie as tie
 
 add-word-in : tie.Need-add-word-in
 add-word-in c = search needs

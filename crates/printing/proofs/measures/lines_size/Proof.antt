@@ -1,0 +1,73 @@
+-- `lines_size` meets its contract: so much is counted, and so much the codes ahead add, by `lines-on`.
+-- Assumes nothing.
+use Prim.Native.Nat.{_+_, _-_, _≤_}
+use mathlib.Core.Path.{_≡_, sym, ap}
+use native.Mathlib.Omega.{arith}
+use native.Mathlib.Nat.{zero-add}
+use borrow.Author.Needs.{needs}
+use lib.ListN.{length, drop}
+use Rattle.printing.specs.Printed.{pageLines}
+use Rattle.printing.specs.PrintedLaws.{linesOf, lines-on, lines-end}
+use Rattle.printing.proofs.measures.lines_size.Statement.{statement}
+use Rattle.printing.proofs.measures.lines_size.Tie as tie
+
+abbrev Inv-loop : tie.InvT-loop
+Inv-loop file codes bytes₀ i₀ bytes i =
+    (i ≤ length codes) × (length (pageLines file (linesOf file codes)) ≡ bytes + length (pageLines file (linesOf file (drop i codes))))
+
+abbrev μ-loop : tie.MeasureT-loop
+μ-loop file codes bytes₀ i₀ bytes i = length codes - i
+
+-- one line more
+added : (c : tie.After-line-size Inv-loop μ-loop) → let l = c .before .before .before in let a = l .before .before .before .args in length (pageLines (a .file .now) (linesOf (a .file .now) (a .codes .now))) ≡ l .loop .bytes + c .line-size .result + length (pageLines (a .file .now) (linesOf (a .file .now) (drop (l .loop .i + 1) (a .codes .now))))
+added c =
+    let l = c .before .before .before in
+    let a = l .before .before .before .args in
+    rw (c .line-size .ensures) (lines-on (a .file .now) (a .codes .now) (l .loop .i) (l .loop .bytes) (omega arith) (l .loop .inv .1))
+
+loop-holds : tie.Need-loop-holds Inv-loop μ-loop
+loop-holds c = (omega arith, sym (zero-add _))
+
+mul-line-size : tie.Need-mul-line-size Inv-loop μ-loop
+mul-line-size c = search needs
+
+shared-slice-read-line-size : tie.Need-shared-slice-read-line-size Inv-loop μ-loop
+shared-slice-read-line-size c = search needs
+
+line-size-requires : tie.Need-line-size-requires Inv-loop μ-loop
+line-size-requires c κs = omega arith
+
+add-bytes : tie.Need-add-bytes Inv-loop μ-loop
+add-bytes c = let e = added c in omega arith
+
+add-i : tie.Need-add-i Inv-loop μ-loop
+add-i c = omega arith
+
+loop-less : tie.Need-loop-less Inv-loop μ-loop
+loop-less c = omega arith
+
+loop-again : tie.Need-loop-again Inv-loop μ-loop
+loop-again c = (omega arith, added c)
+
+returns : tie.Need-returns Inv-loop μ-loop
+returns c =
+    let l = c .before in
+    let a = l .before .before .before .args in
+    let e = ap length (lines-end (a .file .now) (a .codes .now) (l .loop .i) (omega arith)) in
+    omega (arith, l .loop .inv .1, e)
+
+pub lines-size-spec : {M : Type 1} → statement M
+lines-size-spec =
+    tie.close
+    (tie.spec
+    Inv-loop
+    μ-loop
+    loop-holds
+    mul-line-size
+    shared-slice-read-line-size
+    line-size-requires
+    add-bytes
+    add-i
+    loop-less
+    loop-again
+    returns)

@@ -1,0 +1,57 @@
+-- The search of a rule's next day: which days are passed over, and what its ends say.
+-- Assumes nothing.
+use Prim.Native.Nat.{ℕ, _+_, _-_, _<_, _≤_}
+use mathlib.Core.Path.{_≡_}
+use mathlib.Core.Bool.{Bool, true, false}
+use native.Mathlib.Omega.{arith}
+use Rattle.prelude.specs.Choice.{lt-elim}
+use Rattle.days.specs.Days.{lastDay}
+use Rattle.days.specs.Facts.{factsOf}
+use Rattle.days.specs.declared.types.DayFacts.{DayFacts}
+use Rattle.falls.specs.declared.types.ShortMonth.{ShortMonth}
+use Rattle.spans.specs.Codes.{dayCode, dateIn}
+use Rattle.spans.specs.CodeLaws.{facts-known, held}
+use Rattle.spans.specs.MoveLaws.{Reaches}
+use Rattle.spans.specs.Next.{Next}
+use Rattle.spans.specs.Rules.{ruleShows, waitFor}
+use Rattle.spans.specs.WaitLaws.{shows-out, not-yet, date-past, wait-not}
+use Rattle.spans.specs.declared.types.Rule.{Rule}
+
+module _ (c : ShortMonth) (r : Rule) where
+  -- whether the rule shows on a day
+  abbrev pub shown : ℕ → Bool
+  shown d = ruleShows c r (dayCode (factsOf d))
+
+  -- none of the days from one on, up to a limit, shows
+  abbrev pub Free : ℕ → ℕ → Type 0
+  Free from end = (d : ℕ) → from ≤ d → d < end → shown d ≡ false
+
+  pub free-join : {a b e : ℕ} → Free a b → Free b e → Free a e
+  free-join {a} {b} {e} x y d l m = lt-elim {X = Unit {0}} (λ _. shown d ≡ false) d b tt tt (λ h. x d l h) (λ h. y d h m)
+
+  -- before the first date
+  pub free-before : {f g : DayFacts} → Reaches f (r .first) g → Free (f .day .0) (g .day .0)
+  free-before {f} {g} s d l m =
+      let h = s .at .high in
+      let k = facts-known d (omega arith) in
+      shows-out c r _ (not-yet r _ (rw (held k .date) (s .before d l m)))
+
+  -- after the last date
+  pub free-after : (n : ℕ) → r .last < dateIn (dayCode (factsOf n)) → Free n (lastDay + 1)
+  free-after n h d l m =
+      let e : n + (d - n) ≡ d = omega arith in
+      rw e at (shows-out c r _ (date-past n (d - n) (omega arith) r h))
+
+  -- until the wait is over
+  pub free-wait : (n : ℕ) → shown n ≡ false → {e : ℕ} → e ≤ n + waitFor r (dayCode (factsOf n)) → e ≤ lastDay + 1 → Free n e
+  free-wait n z {e} w h d l m =
+      lt-elim {X = Unit {0}} (λ _. shown d ≡ false) n d tt tt
+      (λ less. let q : n + (d - n) ≡ d = omega arith in rw q at (wait-not n (d - n) (omega arith) c r (omega arith) (omega arith)))
+      (λ same. let q : n ≡ d = omega arith in rw q at z)
+
+  -- the ends of the search
+  pub next-found : {from n : ℕ} → from ≤ n → n ≤ lastDay → Free from n → shown n ≡ true → Next shown from (lastDay + 1) n
+  next-found a b f e = record { low = omega arith; high = omega arith; none = f; hit = λ _. e }
+
+  pub next-none : {from : ℕ} → from ≤ lastDay → Free from (lastDay + 1) → Next shown from (lastDay + 1) (lastDay + 1)
+  next-none a f = record { low = omega arith; high = omega arith; none = f; hit = λ h. absurd (omega arith) }

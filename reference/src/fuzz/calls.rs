@@ -1,0 +1,175 @@
+//! Every call of `include/apptbook.h` with hostile arguments, against the reference.
+
+use super::look::Look;
+use super::memory::{crashes_show, Pages};
+use super::{dates, files, numbers, writing, Tally};
+use crate::ffi::pages::CountAnswer;
+use crate::pages::ShortMonth;
+use crate::rng::Rng;
+use crate::{book, calendar, export, ffi, pages, printed};
+
+/// A run of rounds.
+pub struct Fuzz {
+    pub tally: Tally,
+    pub seed: u64,
+    pub rng: Rng,
+    pub file: Pages,
+    pub buffer: Pages,
+    pub text: Pages,
+    pub note: Pages,
+    /// Room for any export.
+    most: Vec<u8>,
+}
+
+impl Fuzz {
+    pub fn new() -> Self {
+        let [file, buffer, text, note] = [0; 4].map(|_| Pages::new());
+        let most = vec![0; calendar::LONGEST];
+        Fuzz { tally: Tally::default(), seed: 0, rng: Rng::new(0), file, buffer, text, note, most }
+    }
+
+    /// One of each call at least.
+    pub fn round(&mut self, seed: u64) {
+        (self.seed, self.rng) = (seed, Rng::new(seed));
+        crashes_show(seed);
+        let Fuzz { rng, tally, .. } = self;
+        dates::round(&mut Look { tally, seed, input: &[] }, rng);
+        let (book, calendar) = (files::book(&mut self.rng), files::calendar(&mut self.rng));
+        let swapped = self.rng.one_in(8);
+        self.with_book(if swapped { &calendar } else { &book });
+        self.with_calendar(if swapped { &book } else { &calendar });
+        writing::round(self);
+    }
+
+    fn with_book(&mut self, bytes: &[u8]) {
+        let Fuzz { rng, tally, seed, file, buffer, most, .. } = self;
+        tally.bytes += bytes.len() as u64;
+        let lent = file.lend(bytes, true, rng);
+        let mut look = Look { tally, seed: *seed, input: bytes };
+        reading(&mut look, lent.bytes(), rng);
+        showing(&mut look, lent.bytes(), rng);
+        printing(&mut look, lent.bytes(), buffer, rng);
+        exporting(&mut look, lent.bytes(), buffer, most, rng);
+        assert!(lent.is(bytes), "seed {seed}: a call changed the book");
+    }
+
+    fn with_calendar(&mut self, bytes: &[u8]) {
+        let Fuzz { rng, tally, seed, file, .. } = self;
+        tally.bytes += bytes.len() as u64;
+        let lent = file.lend(bytes, true, rng);
+        let mut look = Look { tally, seed: *seed, input: bytes };
+        opening(&mut look, lent.bytes(), rng);
+        assert!(lent.is(bytes), "seed {seed}: a call changed the Calendar file");
+    }
+}
+
+impl Default for Fuzz {
+    fn default() -> Self {
+        Fuzz::new()
+    }
+}
+
+fn reading(look: &mut Look, file: &[u8], rng: &mut Rng) {
+    let plain = book::read_book(file);
+    look.at("read_book", ffi::book::read_book(file), plain);
+    let record = numbers::long(plain.map_or(3, |book| book.records), rng);
+    look.at("record", ffi::book::record(file, record), book::record(file, record));
+    let lines = book::note_lines(file, record);
+    look.at("note_lines", ffi::book::note_lines(file, record), lines);
+    let line = numbers::long(lines.unwrap_or(3), rng);
+    look.at("note_line", ffi::book::note_line(file, record, line), book::note_line(file, record, line));
+}
+
+/// Any day, or one on which a record falls, where there is one.
+fn likely_day(file: &[u8], rng: &mut Rng) -> u16 {
+    let day = numbers::day(rng);
+    if rng.one_in(2) {
+        return day;
+    }
+    let record = rng.below(4) as usize;
+    let search = pages::next_occurrence(file, record, day, ShortMonth::Skip);
+    search.ok().and_then(|search| search.day).unwrap_or(day)
+}
+
+fn showing(look: &mut Look, file: &[u8], rng: &mut Rng) {
+    let (day, choice) = (likely_day(file, rng), numbers::choice(rng));
+    let record = numbers::long(book::read_book(file).map_or(3, |book| book.records), rng);
+    let falls = pages::falls_on(file, record, day, choice);
+    look.at("falls_on", ffi::pages::falls_on(file, record, day, choice), falls);
+    let next = pages::next_occurrence(file, record, day, choice);
+    look.at("next_occurrence", ffi::pages::next_occurrence(file, record, day, choice), next);
+    let lines = pages::page_lines(file, day, choice);
+    look.at("page_lines", ffi::pages::page_lines(file, day, choice), lines);
+    let line = numbers::long(lines.unwrap_or(3), rng);
+    let plain = pages::page_line(file, day, choice, line);
+    look.at("page_line", ffi::pages::page_line(file, day, choice, line), plain);
+}
+
+fn opening(look: &mut Look, file: &[u8], rng: &mut Rng) {
+    let days = calendar::read_calendar(file);
+    look.at("read_calendar", ffi::calendar::read_calendar(file), days);
+    let descriptor = numbers::long(days.unwrap_or(3), rng);
+    let plain = calendar::calendar_day(file, descriptor);
+    look.at("calendar_day", ffi::calendar::calendar_day(file, descriptor), plain);
+    let day = plain.map_or_else(|_| numbers::day(rng), |descriptor| descriptor.day);
+    let count = calendar::calendar_appointments(file, day);
+    look.at("calendar_appointments", ffi::calendar::calendar_appointments(file, day), count);
+    let number = numbers::long(count.unwrap_or(3), rng);
+    let plain = calendar::calendar_appointment(file, day, number);
+    look.at("calendar_appointment", ffi::calendar::calendar_appointment(file, day, number), plain);
+}
+
+/// Near to what is needed, or any length.
+fn room(needed: usize, rng: &mut Rng) -> usize {
+    match rng.below(8) {
+        0 => rng.within(0..=needed),
+        1 => needed.saturating_sub(1),
+        2 => 0,
+        3 => rng.within(0..=400),
+        4 => needed + rng.within(1..=1_000),
+        _ => needed,
+    }
+}
+
+type Write<'a> = &'a dyn Fn(&mut [u8]) -> CountAnswer;
+
+/// Answer and buffer of a call that writes to it.
+fn written(
+    look: &mut Look,
+    call: &'static str,
+    buffer: &mut Pages,
+    before: &[u8],
+    by: [Write; 2],
+    rng: &mut Rng,
+) {
+    let mut expected = before.to_vec();
+    let plain = by[1](&mut expected);
+    let mut lent = buffer.lend(before, false, rng);
+    let proved = by[0](lent.bytes_mut());
+    look.same(call, proved, plain);
+    if !lent.is(&expected) {
+        look.fail(&format!("{call}: another buffer of {} bytes, or bytes beside it changed", before.len()));
+    }
+}
+
+fn printing(look: &mut Look, file: &[u8], buffer: &mut Pages, rng: &mut Rng) {
+    let (day, choice) = (likely_day(file, rng), numbers::choice(rng));
+    let length = printed::page_length(file, day, choice);
+    look.at("page_length", ffi::pages::page_length(file, day, choice), length);
+    let room = room(length.unwrap_or(40), rng);
+    let before = rng.bytes(room);
+    let proved: Write = &|buffer| ffi::pages::print_page(file, day, choice, buffer);
+    let plain: Write = &|buffer| printed::print_page(file, day, choice, buffer).into();
+    written(look, "print_page", buffer, &before, [proved, plain], rng);
+}
+
+fn exporting(look: &mut Look, file: &[u8], buffer: &mut Pages, most: &mut [u8], rng: &mut Rng) {
+    let (first, choice) = (numbers::day(rng), numbers::choice(rng));
+    let count = if rng.one_in(4) { numbers::short(rng) } else { rng.within(0..=366) as u16 };
+    let needed = export::export(file, first, count, choice, most);
+    let room = room(needed.unwrap_or(64), rng);
+    let before = vec![rng.u8(); room];
+    let proved: Write = &|buffer| ffi::export::export(file, first, count, choice, buffer);
+    let plain: Write = &|buffer| export::export(file, first, count, choice, buffer).into();
+    written(look, "export", buffer, &before, [proved, plain], rng);
+}

@@ -1,0 +1,106 @@
+//! Short runs of hostile inputs; long ones are run by `cargo run --release --bin fuzz -- SECONDS`.
+
+use reference::books::crowded;
+use reference::ffi::{book, export, pages};
+use reference::fuzz::calls::Fuzz;
+use reference::fuzz::{program, Tally};
+use reference::pages::ShortMonth::Skip;
+use reference::rng::Rng;
+use std::path::{Path, PathBuf};
+use std::{env, thread};
+
+/// All of `include/apptbook.h`, with the numbers that each has to give in a run as long as this.
+const CALLS: &[(&str, &[u32])] = &[
+    ("month_length", &[0, 11]),
+    ("is_real_date", &[0]),
+    ("day_of_date", &[0, 11]),
+    ("date_of_day", &[0, 11]),
+    ("weekday", &[0, 11]),
+    ("day_facts", &[0, 11]),
+    ("next_day", &[0, 11]),
+    ("calendar_of_psion", &[0, 11]),
+    ("psion_of_calendar", &[0, 11]),
+    ("read_book", &[0, 1, 2, 3, 4, 5, 6, 7, 8, 9]),
+    ("record", &[0, 1, 2, 3, 4, 5, 6, 7, 8, 9, 10]),
+    ("note_lines", &[0, 1, 2, 3, 4, 5, 6, 7, 8, 9, 10]),
+    ("note_line", &[0, 1, 2, 3, 4, 5, 6, 7, 8, 9, 10]),
+    ("open", &[0, 3, 12]),
+    ("add", &[0, 6, 7, 8, 12, 14]),
+    ("close", &[0, 12, 14]),
+    ("falls_on", &[0, 1, 2, 3, 4, 5, 6, 7, 8, 9, 10, 11]),
+    ("next_occurrence", &[0, 1, 2, 3, 4, 5, 6, 7, 8, 9, 10, 11]),
+    ("page_lines", &[0, 1, 2, 3, 4, 5, 6, 7, 8, 9, 11]),
+    ("page_line", &[0, 1, 2, 3, 4, 5, 6, 7, 8, 9, 10, 11]),
+    ("page_length", &[0, 1, 2, 3, 4, 5, 6, 7, 8, 9, 11]),
+    ("print_page", &[0, 1, 2, 3, 4, 5, 6, 7, 8, 9, 11, 12]),
+    ("read_calendar", &[0, 20, 21, 22, 23, 24]),
+    ("calendar_day", &[0, 10, 20, 21, 22, 23, 24]),
+    ("calendar_appointments", &[0, 11, 20, 21, 22, 23, 24]),
+    ("calendar_appointment", &[0, 10, 11, 20, 21, 22, 23, 24]),
+    ("export", &[0, 1, 2, 3, 4, 5, 6, 7, 8, 9, 11, 12]),
+];
+
+#[test]
+fn hostile_calls() {
+    let mut rng = Rng::for_test("hostile_calls");
+    let mut fuzz = Fuzz::new();
+    for _ in 0..3_000 {
+        fuzz.round(rng.u64());
+    }
+    println!("{}", fuzz.tally);
+    for (call, numbers) in CALLS {
+        let seen = &fuzz.tally.counts[call];
+        assert!(numbers.iter().all(|number| seen.contains_key(number)), "{call}: {seen:?}");
+    }
+    assert_eq!(fuzz.tally.counts.len(), CALLS.len());
+}
+
+/// The header declares no call that is not among them.
+#[test]
+fn every_call_of_the_header() {
+    let header = Path::new(env!("CARGO_MANIFEST_DIR")).join("../include/apptbook.h");
+    let header = std::fs::read_to_string(header).expect("the header");
+    let code: String = header.split("/*").map(|part| part.split_once("*/").map_or(part, |p| p.1)).collect();
+    let mut declared: Vec<&str> = code
+        .split("apptbook_")
+        .skip(1)
+        .filter_map(|part| part.split_once('(').map(|(name, _)| name))
+        .filter(|name| name.chars().all(|letter| letter.is_ascii_lowercase() || letter == '_'))
+        .collect();
+    declared.sort();
+    let mut calls: Vec<&str> = CALLS.iter().map(|call| call.0).collect();
+    calls.sort();
+    assert_eq!(declared, calls);
+}
+
+#[test]
+fn hostile_commands() {
+    let mut rng = Rng::for_test("hostile_commands");
+    let path: PathBuf = match env::var_os("APPTBOOK_BIN") {
+        Some(path) => path.into(),
+        None => Path::new(env!("CARGO_MANIFEST_DIR")).join("../target/bin/apptbook"),
+    };
+    let mut tally = Tally::default();
+    for _ in 0..600 {
+        program::round(&path, rng.u64(), &mut tally);
+    }
+    println!("{tally}");
+    for kind in ["program: page", "program: export", "program: refusal"] {
+        assert!(tally.counts[kind].values().sum::<u64>() >= 20, "{kind}");
+    }
+}
+
+/// The calls that need most of it: 128 kB of stack are enough.
+#[test]
+fn a_small_stack() {
+    let calls = || {
+        let file = crowded(1_300, 100).bytes;
+        let mut buffer = vec![0; 2_228_224];
+        assert_eq!(book::read_book(&file).records, 1_400);
+        assert_eq!(pages::page_line(&file, 4_822, Skip, 1_299).number, 0);
+        assert_eq!(pages::print_page(&file, 4_822, Skip, &mut buffer).number, 0);
+        assert_eq!(pages::next_occurrence(&file, 0, 0, Skip).number, 0);
+        assert_eq!(export::export(&file, 4_822, 60, Skip, &mut buffer).number, 0);
+    };
+    thread::Builder::new().stack_size(128 * 1_024).spawn(calls).expect("a thread").join().expect("no panic");
+}

@@ -1,0 +1,157 @@
+//! The examples of README.md, taken out of its text: each is compiled by the command that stands there, and run.
+//!
+//! The commands run in a folder that looks like the top of the repository: `include` and `examples` are its own,
+//! `target/staticlib/libcabi.a` is the archive that all tests link, and `run` is the program that they run.
+
+use reference::vectors::calendars::whole_case;
+use std::os::unix::fs::symlink;
+use std::path::{Path, PathBuf};
+use std::process::Command;
+use std::{env, fs};
+
+const PAGE: &str = "1993-03-15 Mon 1\n10:00-11:00 Dep\n";
+
+fn top() -> PathBuf {
+    Path::new(env!("CARGO_MANIFEST_DIR")).join("..").canonicalize().expect("a folder above")
+}
+
+fn readme() -> String {
+    fs::read_to_string(top().join("README.md")).expect("README.md")
+}
+
+/// The only code block of a language.
+fn fenced(text: &str, language: &str) -> String {
+    let fence = format!("\n```{language}\n");
+    let parts: Vec<&str> = text.split(&fence).collect();
+    assert_eq!(parts.len(), 2, "one block of {language}");
+    parts[1].split_once("\n```\n").expect("the block's end").0.to_owned() + "\n"
+}
+
+/// Indented blocks, without the indent, outside of fenced ones.
+fn indented(text: &str) -> Vec<String> {
+    let outside: String = text.split("\n```").step_by(2).collect::<Vec<_>>().join("\n");
+    let mut blocks = vec![String::new()];
+    for line in outside.lines() {
+        match line.strip_prefix("    ") {
+            Some(line) => *blocks.last_mut().expect("a block") += &format!("{line}\n"),
+            None => blocks.push(String::new()),
+        }
+    }
+    blocks.retain(|block| !block.is_empty());
+    blocks
+}
+
+/// The place of the only block that begins so.
+fn beginning(blocks: &[String], words: &str) -> usize {
+    let found: Vec<usize> = (0..blocks.len()).filter(|&at| blocks[at].starts_with(words)).collect();
+    assert_eq!(found.len(), 1, "blocks that begin with {words:?}");
+    found[0]
+}
+
+fn folder(name: &str) -> PathBuf {
+    let folder = Path::new(env!("CARGO_TARGET_TMPDIR")).join(format!("readme-{name}"));
+    let _ = fs::remove_dir_all(&folder);
+    fs::create_dir_all(folder.join("target/staticlib")).expect("a new folder");
+    let program = match env::var_os("APPTBOOK_BIN") {
+        Some(path) => std::path::absolute(path).expect("a path"),
+        None => top().join("target/bin/apptbook"),
+    };
+    for (from, to) in [
+        (top().join("include"), "include"),
+        (top().join("examples"), "examples"),
+        (env!("APPTBOOK_ARCHIVE").into(), "target/staticlib/libcabi.a"),
+        (program, "run"),
+    ] {
+        symlink(from, folder.join(to)).expect("a link");
+    }
+    folder
+}
+
+/// Runs a block's lines by the shell; none may fail or complain. Gives what they print.
+fn shell(folder: &Path, lines: &str) -> Vec<u8> {
+    let output = Command::new("sh").args(["-ec", lines]).current_dir(folder).output().expect("a shell");
+    let complaint = String::from_utf8_lossy(&output.stderr);
+    assert!(output.status.success() && complaint.is_empty(), "{lines}{}\n{complaint}", output.status);
+    output.stdout
+}
+
+struct Example {
+    printed: String,
+    /// For a book that is cut short by a byte.
+    refused: String,
+    /// The block behind the commands.
+    shown: String,
+}
+
+fn example(language: &str, file: &str, compiler: &str) -> Example {
+    let text = readme();
+    let folder = folder(language);
+    fs::write(folder.join(file), fenced(&text, language)).expect("a file");
+    let blocks = indented(&text);
+    let at = beginning(&blocks, compiler);
+    assert!(blocks[at].ends_with("\n./example < examples/case.book\n"), "{}", blocks[at]);
+    let text = |bytes| String::from_utf8(bytes).expect("plain text");
+    let printed = text(shell(&folder, &blocks[at]));
+    let refused = text(shell(&folder, "head -c 32 examples/case.book | ./example || true\n"));
+    Example { printed, refused, shown: blocks[at + 1].clone() }
+}
+
+#[test]
+fn the_c_example() {
+    let Example { printed, refused, shown } = example("c", "example.c", "cc ");
+    assert_eq!(printed, "kind 1: Dep\n");
+    assert_eq!(shown, printed);
+    assert_eq!(refused, "4 30\n");
+}
+
+#[test]
+fn the_rust_example() {
+    let Example { printed, refused, .. } = example("rust", "example.rs", "rustc ");
+    assert_eq!(printed, PAGE);
+    assert_eq!(refused, "4 30\n");
+}
+
+#[test]
+fn the_page() {
+    let blocks = indented(&readme());
+    let at = beginning(&blocks, "./run 4822 <");
+    assert_eq!(blocks[at], "./run 4822 < examples/case.book\n");
+    assert_eq!(shell(&folder("page"), &blocks[at]), PAGE.as_bytes());
+    assert_eq!(blocks[at + 1], PAGE);
+}
+
+#[test]
+fn the_export() {
+    let blocks = indented(&readme());
+    let at = beginning(&blocks, "./run 4822 1 <");
+    assert_eq!(blocks[at], "./run 4822 1 < examples/case.book > case.cal\n");
+    let folder = folder("export");
+    assert_eq!(shell(&folder, &blocks[at]), b"");
+    let written = fs::read(folder.join("case.cal")).expect("the file written");
+    assert_eq!(written, whole_case());
+    assert_eq!(written, fs::read(top().join("examples/case.cal")).expect("the example"));
+    assert_eq!(written, listed(&blocks[at + 1]));
+    assert_eq!(shell(&folder, "od -Ad -tx1 case.cal\n"), blocks[at + 1].as_bytes());
+}
+
+/// The bytes of a listing by `od`.
+fn listed(listing: &str) -> Vec<u8> {
+    let mut bytes = vec![];
+    let mut repeated = None;
+    for line in listing.lines() {
+        if line == "*" {
+            repeated = Some(bytes[bytes.len() - 16..].to_vec());
+            continue;
+        }
+        let mut words = line.split(' ');
+        let place: usize = words.next().and_then(|word| word.parse().ok()).expect("a place");
+        if let Some(again) = repeated.take() {
+            while bytes.len() < place {
+                bytes.extend(&again);
+            }
+        }
+        assert_eq!(bytes.len(), place);
+        bytes.extend(words.map(|word| u8::from_str_radix(word, 16).expect("a byte")));
+    }
+    bytes
+}
