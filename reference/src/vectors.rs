@@ -243,6 +243,54 @@ pub const CUTS: &[(usize, u32, usize)] = &[
     (182, 4, 180),
 ];
 
+/// Where a file is changed, and to what.
+type Change = (usize, &'static [u8]);
+
+/// Several faults of `every_kind` at once: its changes, its length (cut, or filled with zeros), and the number and
+/// place of the one that counts.
+pub const SEVERAL_FAULTS: &[(&[Change], usize, u32, usize)] = &[
+    // The length, the identification, the settings.
+    (&[], 65_536, 1, 0),
+    (&[(0, &[0xFE])], 65_536, 1, 0),
+    (&[(5, &[0xA0, 0x05])], 65_536, 1, 0),
+    (&[(46, &[0])], 65_536, 1, 0),
+    (&[(0, &[0xFE]), (5, &[0xA0, 0x05])], 183, 2, 0),
+    (&[(4, &[2])], 11, 2, 0),
+    (&[(9, &[2]), (12, &[7])], 183, 3, 5),
+    (&[(9, &[2])], 12, 3, 5),
+    // A record's three head bytes, its type, its body, 6, 7, 8.
+    (&[(12, &[7])], 13, 4, 12),
+    (&[(12, &[7])], 14, 4, 12),
+    (&[(12, &[7])], 15, 5, 12),
+    (&[(12, &[50])], 15, 5, 12),
+    (&[(12, &[7]), (13, &[0xFF, 0xFF])], 183, 5, 12),
+    (&[(24, &[28])], 26, 4, 12),
+    (&[(16, &[79])], 26, 4, 12),
+    (&[(46, &[0])], 51, 4, 27),
+    (&[(24, &[1]), (23, &[31])], 183, 6, 12),
+    (&[(44, &[5]), (46, &[0])], 183, 6, 27),
+    (&[(31, &[0]), (46, &[0])], 183, 7, 27),
+    // Of two records the first; the end record; the bytes after it.
+    (&[(23, &[31]), (27, &[7])], 183, 7, 12),
+    (&[(46, &[0]), (56, &[0])], 183, 8, 27),
+    (&[(46, &[0])], 182, 8, 27),
+    (&[(27, &[7]), (180, &[51])], 183, 5, 27),
+    (&[(180, &[51])], 182, 4, 180),
+    (&[(46, &[0])], 184, 8, 27),
+    (&[(181, &[1])], 184, 5, 180),
+    (&[(180, &[1])], 65_535, 6, 180),
+];
+
+/// `every_kind` with these.
+pub fn with_faults(changes: &[Change], length: usize) -> Vec<u8> {
+    let mut file = every_kind();
+    for (at, bytes) in changes {
+        file[*at..at + bytes.len()].copy_from_slice(bytes);
+    }
+    file.resize(length, 0);
+    file
+}
+
 /// Start, granularity, lead, the buffer's length, and the number that `open` gives.
 pub const OPENINGS: &[(u16, u16, u16, usize, u32)] = &[
     (480, 30, 5, 15, 0),

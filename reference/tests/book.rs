@@ -7,7 +7,7 @@ use reference::notes;
 use reference::records::Record;
 use reference::refusal::{Refusal, NO_SUCH_NUMBER};
 use reference::rng::Rng;
-use reference::vectors::{every_kind, CUTS, FAULTS, WHOLE_CASE};
+use reference::vectors::{every_kind, with_faults, CUTS, FAULTS, SEVERAL_FAULTS, WHOLE_CASE};
 
 #[test]
 fn the_whole_case() {
@@ -219,6 +219,10 @@ fn faults_by_hand() {
         is_refused_book(&every_kind()[..length], Refusal { number, place });
     }
     is_refused_book(&[every_kind(), vec![0]].concat(), Refusal { number: 9, place: 183 });
+    for &(changes, length, number, place) in SEVERAL_FAULTS {
+        println!("{changes:?}, length {length}");
+        is_refused_book(&with_faults(changes, length), Refusal { number, place });
+    }
 }
 
 fn compare(file: &[u8], name: &str) {

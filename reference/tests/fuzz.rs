@@ -1,12 +1,14 @@
 //! Short runs of hostile inputs; long ones are run by `cargo run --release --bin fuzz -- SECONDS`.
 
-use reference::books::crowded;
+use reference::books::{book_of_span, crowded, Span};
 use reference::ffi::{book, export, pages};
 use reference::fuzz::calls::Fuzz;
 use reference::fuzz::{program, Tally};
-use reference::pages::ShortMonth::Skip;
+use reference::pages::ShortMonth::{Last, Skip};
+use reference::printed;
 use reference::rng::Rng;
 use std::path::{Path, PathBuf};
+use std::sync::Barrier;
 use std::{env, thread};
 
 /// All of `include/apptbook.h`, with the numbers that each has to give in a run as long as this.
@@ -53,6 +55,61 @@ fn hostile_calls() {
         assert!(numbers.iter().all(|number| seen.contains_key(number)), "{call}: {seen:?}");
     }
     assert_eq!(fuzz.tally.counts.len(), CALLS.len());
+}
+
+/// From four threads at once: each call gives what the reference gives, whatever the others ask for.
+#[test]
+fn hostile_calls_in_threads() {
+    let mut rng = Rng::for_test("hostile_calls_in_threads");
+    let seeds = [0; 4].map(|_| rng.u64());
+    let together = Barrier::new(seeds.len());
+    let rounds = |seed| {
+        let (mut rng, mut fuzz) = (Rng::new(seed), Fuzz::new());
+        together.wait();
+        for _ in 0..1_000 {
+            fuzz.round(rng.u64());
+        }
+    };
+    thread::scope(|scope| {
+        for seed in seeds {
+            scope.spawn(move || rounds(seed));
+        }
+    });
+}
+
+/// Pages and exports of four books, and of one book, from four threads at once.
+#[test]
+fn pages_in_threads() {
+    let mut rng = Rng::for_test("pages_in_threads");
+    let span = Span { first: 4_822, count: 40 };
+    let books = [0; 4].map(|_| book_of_span(span, 80, &mut rng).bytes);
+    ask_together([0, 1, 2, 3].map(|number| &books[number][..]));
+    ask_together([&books[0]; 4]);
+}
+
+/// Each thread has a day and a buffer of its own.
+fn ask_together(books: [&[u8]; 4]) {
+    let together = &Barrier::new(books.len());
+    let ask = |book: &[u8], day, choice| {
+        let page = printed::printed_page(book, day, choice).expect("a right book");
+        let mut file = vec![0; 70_000];
+        let length = reference::export::export(book, day, 9, choice, &mut file).expect("room");
+        let mut buffer = vec![0; file.len()];
+        together.wait();
+        for _ in 0..3_000 {
+            assert_eq!(pages::print_page(book, day, choice, &mut buffer).count, page.len());
+            assert!(buffer.starts_with(&page), "another page of day {day}");
+            assert_eq!(export::export(book, day, 9, choice, &mut buffer).count, length);
+            assert!(buffer[..length] == file[..length], "another export from day {day} on");
+        }
+    };
+    thread::scope(|scope| {
+        for ((book, day), choice) in
+            books.into_iter().zip([4_822, 4_823, 4_830, 4_840]).zip([Skip, Last, Skip, Last])
+        {
+            scope.spawn(move || ask(book, day, choice));
+        }
+    });
 }
 
 /// The header declares no call that is not among them.

@@ -6,7 +6,8 @@ use reference::days::Date;
 use reference::records::{Entry, Record, Times};
 use reference::refusal::{Refusal, NO_SUCH_NUMBER};
 use reference::rng::Rng;
-use reference::vectors::{every_kind, every_kind_records, CUTS, FAULTS, WHOLE_CASE};
+use reference::vectors::{every_kind, every_kind_records, with_faults};
+use reference::vectors::{CUTS, FAULTS, SEVERAL_FAULTS, WHOLE_CASE};
 use std::collections::BTreeMap;
 
 /// Number and place; 0 and 0: accepted.
@@ -75,6 +76,9 @@ fn faults_by_hand() {
         assert_eq!(judged(&every_kind()[..length]), (number, place), "cut to {length}");
     }
     assert_eq!(judged(&[every_kind(), vec![0]].concat()), (9, 183));
+    for &(changes, length, number, place) in SEVERAL_FAULTS {
+        assert_eq!(judged(&with_faults(changes, length)), (number, place), "{changes:?}, length {length}");
+    }
 }
 
 #[test]

@@ -20,7 +20,7 @@ use Rattle.book.specs.declared.types.Book.{Book}
 use Rattle.book.specs.declared.types.BookAnswer.{BookAnswer}
 use Rattle.book.specs.declared.types.StepAnswer.{StepAnswer}
 
-refused-not : {e : Refusal} {b : Book} → BookAnswer.Refused e ≡ BookAnswer.Accepted b → ⊥
+pub refused-not : {e : Refusal} {b : Book} → BookAnswer.Refused e ≡ BookAnswer.Accepted b → ⊥
 refused-not c = let z : _≡_ {A = ℕ} 0 1 = cc in omega arith
 
 accepted-inj : {a b : Book} → BookAnswer.Accepted a ≡ BookAnswer.Accepted b → a ≡ b

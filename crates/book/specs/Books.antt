@@ -4,7 +4,7 @@ use Prim.Native.Nat.{ℕ, suc, _+_}
 use mathlib.Core.List.{List, [], map}
 use lib.ListN.{length, getD}
 use Rattle.prelude.specs.Choice.{ifLt, ifB}
-use Rattle.prelude.specs.Bytes.{part}
+use Rattle.prelude.specs.Bytes.{stretchBytes}
 use Rattle.prelude.specs.Refusals.{bookTooLong, notABook, badSettings, afterEnd, noSuchNumber, refusal, refusalAt}
 use Rattle.prelude.specs.declared.refusals.Verdict.{Verdict}
 use Rattle.records.specs.Fields.{recordOf, fixedOf, textLength, noteLength}
@@ -68,9 +68,9 @@ recordAnswer f k = recordFrom f k (bookOf f)
 
 -- a record's text and note as stretches of the file; nothing where there is no such record
 unfoldable pub textIn : List ℕ → RecordAnswer → List ℕ
-textIn f (RecordAnswer.Record e) = part f (e .text .place) (e .text .length)
+textIn f (RecordAnswer.Record e) = stretchBytes f (e .text)
 textIn f (RecordAnswer.Refused r) = []
 
 unfoldable pub noteIn : List ℕ → RecordAnswer → List ℕ
-noteIn f (RecordAnswer.Record e) = part f (e .note .place) (e .note .length)
+noteIn f (RecordAnswer.Record e) = stretchBytes f (e .note)
 noteIn f (RecordAnswer.Refused r) = []

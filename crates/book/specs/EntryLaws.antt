@@ -44,6 +44,14 @@ pub record Inside (f : List ℕ) (e : Entry) : Type 0 where
 length-body : (f : List ℕ) (at : ℕ) → at + 3 + lengthAt f at ≤ length f → length (bodyAt f at) ≡ lengthAt f at
 length-body f at h = simp (length-take, length-drop) (omega arith)
 
+-- a record's fixed bytes lie in its body
+pub fixed-most : (f : List ℕ) (at : ℕ) → RecordAt f at → fixedOf (typeAt f at) ≤ lengthAt f at
+fixed-most f at r =
+    let j : Judged (typeAt f at) (bodyAt f at) = judged (typeAt f at) (bodyAt f at) (r .fine) in
+    let l : length (bodyAt f at) ≡ lengthAt f at = length-body f at (r .body) in
+    let b : fixedOf (typeAt f at) + textLength (typeAt f at) (bodyAt f at) + noteLength (typeAt f at) (bodyAt f at) ≤ length (bodyAt f at) = j .fits in
+    omega arith
+
 pub entry-inside : (f : List ℕ) (at : ℕ) → RecordAt f at → Inside f (entryAt f at)
 unfolding entryAt
 entry-inside f at r =

@@ -8,7 +8,7 @@ use Rattle.prelude.specs.Choice.{ifLt, ifEq, ifB}
 use Rattle.days.specs.Dates.{leap, monthLength, real}
 use Rattle.records.specs.Fields.{datedOf, recordOf, fixedOf}
 use Rattle.records.specs.Ranges.{timesOk, datedOk}
-use Rattle.records.specs.Notes.{noZero, linesOf, shortLines, noteOk}
+use Rattle.notes.specs.Notes.{noZero, linesOf, shortLines, noteOk}
 use Rattle.records.specs.Bodies.{lengthsFit, lengthsOk, fieldsOk, textsOk, judgeBody}
 use Rattle.records.specs.declared.types.Record.{Record}
 use Rattle.book.specs.Settings.{sameBytes, identified, settingsInRange, settingsOf, flagsOk, settingsOk}

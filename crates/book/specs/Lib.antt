@@ -7,4 +7,5 @@ pub mod BookLaws
 pub mod EntryLaws
 pub mod CountLaws
 pub mod Lines
+pub mod NoteLaws
 pub mod Examples

@@ -44,7 +44,7 @@ pub record RecordAt (f : List ℕ) (at : ℕ) : Type 0 where
   pub body : at + 3 + lengthAt f at ≤ length f
   pub fine : judgeBody (typeAt f at) (bodyAt f at) ≡ 0
 
-no-end : {e : Refusal} → StepAnswer.Stopped e ≡ StepAnswer.End → ⊥
+pub no-end : {e : Refusal} → StepAnswer.Stopped e ≡ StepAnswer.End → ⊥
 no-end c = let z : _≡_ {A = ℕ} 0 1 = cc in omega arith
 
 no-record : {e : Refusal} {n : ℕ} → StepAnswer.Stopped e ≡ StepAnswer.Record n → ⊥
@@ -53,7 +53,7 @@ no-record c = let z : _≡_ {A = ℕ} 0 1 = cc in omega arith
 end-no-record : {n : ℕ} → StepAnswer.End ≡ StepAnswer.Record n → ⊥
 end-no-record c = let z : _≡_ {A = ℕ} 0 1 = cc in omega arith
 
-record-no-end : {n : ℕ} → StepAnswer.Record n ≡ StepAnswer.End → ⊥
+pub record-no-end : {n : ℕ} → StepAnswer.Record n ≡ StepAnswer.End → ⊥
 record-no-end c = let z : _≡_ {A = ℕ} 0 1 = cc in omega arith
 
 record-inj : {n m : ℕ} → StepAnswer.Record n ≡ StepAnswer.Record m → n ≡ m

@@ -2,50 +2,59 @@
 ghost use mathlib.Core.Path.{_≡_};
 ghost use Prim.Native.Nat.{_<_, _≤_};
 ghost use lib.ListN.{length, getD};
-ghost use Rattle.book.specs.Walk.{nextPlace};
+ghost use Rattle.book.specs.Walk.{nextPlace, bodyAt};
 ghost use Rattle.book.specs.Books.{entryAt, placesOf, recordFrom, recordAnswer, textIn, noteIn};
 ghost use Rattle.book.specs.BookLaws.{AcceptedBook};
+ghost use Rattle.book.specs.WalkLaws.{RecordAt};
 use crate::reading::read_book;
 use crate::types::Book;
 use crate::types::BookAnswer;
 use crate::types::Entry;
 use crate::types::RecordAnswer;
+use crate::types::Texts;
+use prelude::numbers::wide_size;
 use prelude::refusals::NO_SUCH_NUMBER;
 use prelude::refusals::Refusal;
-use prelude::slices::byte;
+use prelude::slices::Stretch;
 use prelude::slices::part;
-use prelude::slices::word;
+use prelude::slices::word_in;
 use records::fields::fixed_of;
-use records::fields::note_length;
 use records::fields::record_of;
-use records::fields::text_length;
-use records::types::Stretch;
 
-// The place after the record at a place.
+// The place after a record that a walk has judged: its bytes are there.
 pub fn next_place(file: &[u8], at: usize) -> usize
-    requires { ⌜ at ≤ length (now file) ⌝ }
+    requires { ⌜ RecordAt (now file) at ⌝ }
     ensures { λ r. ⌜ r ≡ nextPlace (now (file .entry)) at ⌝ }
 {
-    let l = word(file, at + 1) as usize;
+    let l = word_in(file, at + 1) as usize;
     at + 3 + l
 }
 
-// The record at a place, which a walk has judged.
-pub fn entry_at(file: &[u8], at: usize) -> Entry
-    requires { ⌜ at ≤ length (now file) ⌝ }
-    ensures { λ r. ⌜ r ≡ entryAt (now (file .entry)) at ⌝ }
+// Its body.
+pub fn body_at(file: &[u8], at: usize) -> &[u8]
+    requires { ⌜ RecordAt (now file) at ⌝ }
+    ensures { λ r. ⌜ now r ≡ bodyAt (now (file .entry)) at ⌝ }
 {
-    let t = byte(file, at);
-    let l = word(file, at + 1) as usize;
+    let l = word_in(file, at + 1) as usize;
+    let p = &file[at + 3..];
+    &p[..l]
+}
+
+// Where its text and its note lie.
+pub fn texts_at(file: &[u8], at: usize) -> Texts
+    requires { ⌜ RecordAt (now file) at ⌝ }
+    ensures { λ r. ⌜ (r .text ≡ entryAt (now (file .entry)) at .text) × (r .note ≡ entryAt (now (file .entry)) at .note) ⌝ }
+{
+    let t = file[at];
+    let l = word_in(file, at + 1) as usize;
     let from = at + 3;
-    let body = part(file, from, l);
-    let text = from + fixed_of(t);
-    let text_length = text_length(t, body) as usize;
-    let note_length = note_length(t, body) as usize;
-    let record = record_of(t, body);
-    Entry {
-        place: at,
-        record,
+    let next = from + l;
+    let body = &file[from..next];
+    let fixed = fixed_of(t);
+    let text = from + fixed;
+    let text_length = wide_size(body[fixed - 3]);
+    let note_length = word_in(body, fixed - 2) as usize;
+    Texts {
         text: Stretch {
             place: text,
             length: text_length,
@@ -54,6 +63,27 @@ pub fn entry_at(file: &[u8], at: usize) -> Entry
             place: text + text_length,
             length: note_length,
         },
+    }
+}
+
+// The record itself.
+fn entry_at(file: &[u8], at: usize) -> Entry
+    requires { ⌜ RecordAt (now file) at ⌝ }
+    ensures { λ r. ⌜ r ≡ entryAt (now (file .entry)) at ⌝ }
+{
+    let t = file[at];
+    let l = word_in(file, at + 1) as usize;
+    let from = at + 3;
+    let next = from + l;
+    let record = record_of(t, &file[from..next]);
+    let texts = texts_at(file, at);
+    let text = texts.text;
+    let note = texts.note;
+    Entry {
+        place: at,
+        record,
+        text,
+        note,
     }
 }
 

@@ -1,60 +1,88 @@
 // The lines of a record's note: how many, and each as a stretch of the caller's file.
 ghost use mathlib.Core.Path.{_≡_};
-ghost use Rattle.book.specs.Lines.{linesAnswer, lineOfEntry, lineAnswer};
-ghost use Rattle.book.specs.EntryLaws.{Inside};
-use crate::entries::record_at;
-use crate::types::Entry;
-use crate::types::LineAnswer;
+ghost use Prim.Native.Nat.{_+_, _≤_};
+ghost use lib.ListN.{length};
+ghost use Rattle.book.specs.Books.{recordFrom, recordAnswer};
+ghost use Rattle.book.specs.Lines.{noteFrom, linesAnswer, lineOf, lineAnswer};
+ghost use Rattle.book.specs.BookLaws.{AcceptedBook};
+use crate::entries::place_of;
+use crate::entries::texts_at;
+use crate::reading::read_book;
+use crate::types::Book;
+use crate::types::BookAnswer;
 use crate::types::LinesAnswer;
-use crate::types::RecordAnswer;
+use crate::types::StretchAnswer;
+use notes::lines::line_at;
+use notes::lines::line_count;
 use prelude::refusals::NO_SUCH_NUMBER;
 use prelude::refusals::Refusal;
+use prelude::slices::Stretch;
 use prelude::slices::part;
-use records::notes::line_at;
-use records::notes::line_count;
-use records::types::Stretch;
+
+fn note_in(file: &[u8], k: usize, b: Book) -> StretchAnswer
+    requires { ⌜ AcceptedBook (now file) b ⌝ }
+    ensures { λ r. ⌜ r ≡ noteFrom (recordFrom (now (file .entry)) k (BookAnswer.Accepted b)) ⌝ }
+{
+    if k < b.records {
+        let at = place_of(file, k);
+        let texts = texts_at(file, at);
+        let note = texts.note;
+        return StretchAnswer::Stretch(note);
+    }
+    StretchAnswer::Refused(Refusal {
+        number: NO_SUCH_NUMBER,
+        place: 0,
+    })
+}
+
+// The note of a record, as a stretch of the file.
+fn note_of(file: &[u8], k: usize) -> StretchAnswer
+    ensures { λ r. ⌜ r ≡ noteFrom (recordAnswer (now (file .entry)) k) ⌝ }
+{
+    let a = read_book(file);
+    match a {
+        BookAnswer::Accepted(b) => note_in(file, k, b),
+        BookAnswer::Refused(e) => StretchAnswer::Refused(e),
+    }
+}
 
 // How many lines the note of a record has.
 pub fn note_lines(file: &[u8], k: usize) -> LinesAnswer
     ensures { λ r. ⌜ r ≡ linesAnswer (now (file .entry)) k ⌝ }
 {
-    let a = record_at(file, k);
+    let a = note_of(file, k);
     match a {
-        RecordAnswer::Record(e) => LinesAnswer::Lines(line_count(part(
-            file,
-            e.note.place,
-            e.note.length,
-        ))),
-        RecordAnswer::Refused(e) => LinesAnswer::Refused(e),
+        StretchAnswer::Stretch(s) => LinesAnswer::Lines(line_count(part(file, s.place, s.length))),
+        StretchAnswer::Refused(e) => LinesAnswer::Refused(e),
     }
 }
 
-fn line_in(file: &[u8], j: usize, e: Entry) -> LineAnswer
-    requires { ⌜ Inside (now file) e ⌝ }
-    ensures { λ r. ⌜ r ≡ lineOfEntry (now (file .entry)) j e ⌝ }
+fn line_in(file: &[u8], j: usize, s: Stretch) -> StretchAnswer
+    requires { ⌜ s .place + s .length ≤ length (now file) ⌝ }
+    ensures { λ r. ⌜ r ≡ lineOf (now (file .entry)) j s ⌝ }
 {
-    let place = e.note.place;
-    let note = part(file, place, e.note.length);
+    let place = s.place;
+    let note = part(file, place, s.length);
     if j < line_count(note) {
         let line = line_at(note, j);
-        return LineAnswer::Line(Stretch {
+        return StretchAnswer::Stretch(Stretch {
             place: place + line.place,
             length: line.length,
         });
     }
-    LineAnswer::Refused(Refusal {
+    StretchAnswer::Refused(Refusal {
         number: NO_SUCH_NUMBER,
         place: 0,
     })
 }
 
 // Line j of the note of a record.
-pub fn note_line(file: &[u8], k: usize, j: usize) -> LineAnswer
+pub fn note_line(file: &[u8], k: usize, j: usize) -> StretchAnswer
     ensures { λ r. ⌜ r ≡ lineAnswer (now (file .entry)) k j ⌝ }
 {
-    let a = record_at(file, k);
+    let a = note_of(file, k);
     match a {
-        RecordAnswer::Record(e) => line_in(file, j, e),
-        RecordAnswer::Refused(e) => LineAnswer::Refused(e),
+        StretchAnswer::Stretch(s) => line_in(file, j, s),
+        StretchAnswer::Refused(e) => StretchAnswer::Refused(e),
     }
 }

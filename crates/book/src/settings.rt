@@ -3,14 +3,9 @@ ghost use mathlib.Core.Path.{_≡_};
 ghost use Rattle.book.specs.Settings.{identified, settingsInRange, settingsOf, flagsOk, settingsOk, sameBytes};
 use crate::types::Settings;
 use days::types::Minute;
+use prelude::numbers::wide;
 use prelude::slices::byte;
 use prelude::slices::word;
-
-fn wide(b: u8) -> u16
-    ensures { λ r. ⌜ r ≡ b ⌝ }
-{
-    b as u16
-}
 
 fn same_bytes(a: u8, b: u8, c: u8, d: u8, e: u8) -> bool
     ensures { λ r. ⌜ r ≡ sameBytes a b c d e ⌝ }

@@ -1,8 +1,8 @@
 // What reading a book gives.
 use days::types::Minute;
 use prelude::refusals::Refusal;
+use prelude::slices::Stretch;
 use records::types::Record;
-use records::types::Stretch;
 
 // The book's settings, document 01 "Settings".
 pub struct Settings {
@@ -39,6 +39,12 @@ pub struct Entry {
     pub note: Stretch,
 }
 
+// The stretches of a record's text and note.
+pub struct Texts {
+    pub text: Stretch,
+    pub note: Stretch,
+}
+
 pub enum RecordAnswer {
     Record(Entry),
     Refused(Refusal),
@@ -49,7 +55,8 @@ pub enum LinesAnswer {
     Refused(Refusal),
 }
 
-pub enum LineAnswer {
-    Line(Stretch),
+// A stretch of the file: a note, or a line of one.
+pub enum StretchAnswer {
+    Stretch(Stretch),
     Refused(Refusal),
 }

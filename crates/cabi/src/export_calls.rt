@@ -2,29 +2,12 @@
 ghost use mathlib.Core.Path.{_≡_};
 ghost use lib.ListN.{length};
 ghost use Rattle.export.specs.Export.{exportAnswer, exportLeaves, showsUnder};
-ghost use Rattle.cabi.specs.PageCalls.{choiceOf};
-ghost use Rattle.cabi.specs.ExportCalls.{exportOut};
-use crate::page_calls::CountOut;
-use crate::page_calls::choice_of;
+ghost use Rattle.marshal.specs.PageAnswers.{choiceOf};
+ghost use Rattle.marshal.specs.CalendarAnswers.{exportOut};
 use days::types::CalendarDay;
-use export::types::ExportAnswer;
-
-fn export_out(a: ExportAnswer) -> CountOut
-    ensures { λ r. ⌜ r ≡ exportOut a ⌝ }
-{
-    match a {
-        ExportAnswer::Written(count) => CountOut {
-            number: 0,
-            place: 0,
-            count,
-        },
-        ExportAnswer::Refused(e) => CountOut {
-            number: e.number,
-            place: e.place,
-            count: 0,
-        },
-    }
-}
+use marshal::calendar_answers::export_out;
+use marshal::page_answers::CountOut;
+use marshal::page_answers::choice_of;
 
 #[no_mangle]
 pub extern "C" fn apptbook_export(

@@ -8,16 +8,13 @@ use native.Mathlib.Omega.{arith}
 use lib.ListN.{length}
 use Rattle.prelude.specs.Choice.{is-lt, is-ge, is-eq, is-true, is-false, lt-skip, eq-take, b-take}
 use Rattle.prelude.specs.Bytes.{word}
-use Rattle.prelude.specs.Refusals.{badTable, badBlock, refusalAt}
+use Rattle.prelude.specs.Refusals.{badTable, badBlock, refusalAt, verdict-not}
 use Rattle.prelude.specs.declared.refusals.Refusal.{Refusal}
 use Rattle.prelude.specs.declared.refusals.Verdict.{Verdict}
 use Rattle.days.specs.Days.{lastDay}
 use Rattle.calendar.specs.Lists.{verdictIn}
 use Rattle.calendar.specs.Reader.{mostBytes, identified, countOf, tableEnd, dayAt, offsetAt, blockAt, listEnd, andThen, tableFrom, blockOk, listOf, dayVerdict, daysFrom, answered, calendarOf}
 use Rattle.calendar.specs.declared.types.CalendarAnswer.{CalendarAnswer}
-
-refused-not : {e : Refusal} → Verdict.Refused e ≡ Verdict.Fine → ⊥
-refused-not c = let z : _≡_ {A = ℕ} 0 1 = cc in omega arith
 
 answer-not : {e : Refusal} {n : ℕ} → CalendarAnswer.Refused e ≡ CalendarAnswer.Accepted n → ⊥
 answer-not c = let z : _≡_ {A = ℕ} 0 1 = cc in omega arith
@@ -34,7 +31,7 @@ then-refused e w = refl
 pub both-fine : (v w : Verdict) → andThen v w ≡ Verdict.Fine → (v ≡ Verdict.Fine) × (w ≡ Verdict.Fine)
 unfolding andThen
 both-fine Verdict.Fine w h = (refl, h)
-both-fine (Verdict.Refused e) w h = absurd (refused-not h)
+both-fine (Verdict.Refused e) w h = absurd (verdict-not h)
 
 -- the table: of no descriptor, a day over the last, a day that does not rise, a day that does
 module _ (f : List ℕ) (p low : ℕ) where
@@ -93,7 +90,7 @@ module _ (f : List ℕ) (p : ℕ) where
 
   pub day-fine : dayVerdict f p ≡ Verdict.Fine → BlockAt f p × (verdictIn (listOf f p) ≡ Verdict.Fine)
   unfolding dayVerdict
-  day-fine h = let e = b-take (blockOk f p) _ _ refused-not h in (block-facts (e .0), e .1)
+  day-fine h = let e = b-take (blockOk f p) _ _ verdict-not h in (block-facts (e .0), e .1)
 
   -- the days: of no descriptor, one that is fine, one that is refused
   pub days-none : daysFrom 0 f p ≡ Verdict.Fine

@@ -4,8 +4,9 @@ use Prim.Native.Nat.{ℕ, zero, suc, _+_, _-_, _*_}
 use mathlib.Core.List.{List, [], map}
 use lib.ListN.{length, getD}
 use Rattle.prelude.specs.Choice.{ifLt, ifEq}
-use Rattle.prelude.specs.Bytes.{part}
+use Rattle.prelude.specs.Bytes.{stretchBytes}
 use Rattle.prelude.specs.Refusals.{noSuchNumber, outOfRange, refusal}
+use Rattle.prelude.specs.declared.slices.Stretch.{Stretch}
 use Rattle.days.specs.Days.{lastDay}
 use Rattle.calendar.specs.File.{Appointment}
 use Rattle.calendar.specs.Lists.{sizeAt, flagsAt, minuteAt, placesIn}
@@ -26,15 +27,12 @@ unfoldable pub placesOn : List ℕ → ℕ → List ℕ
 placesOn f d = placesFrom (countOf f) f 64 d
 
 -- the appointment at a place: "minute, flags, text", where the text stands before the zero that ends it
-abbrev pub textPlace : ℕ → ℕ
-textPlace at = at + 4
-
-abbrev pub textLength : List ℕ → ℕ → ℕ
-textLength f at = sizeAt f at - 5
+abbrev pub textAt : List ℕ → ℕ → Stretch
+textAt f at = record { place = at + 4; length = sizeAt f at - 5 }
 
 unfoldable pub appointmentAt : List ℕ → ℕ → Appointment
 appointmentAt f at =
-    record { minute = minuteAt f at; flags = flagsAt f at; text = part f (textPlace at) (textLength f at) }
+    record { minute = minuteAt f at; flags = flagsAt f at; text = stretchBytes f (textAt f at) }
 
 -- "a day's appointments (minute, flags, text)"
 unfoldable pub appointmentsOn : List ℕ → ℕ → List Appointment
@@ -46,8 +44,7 @@ entryAt f at =
     record {
       minute = record { 0 = minuteAt f at };
       flags = flagsAt f at;
-      «text_place» = textPlace at;
-      «text_length» = textLength f at;
+      text = textAt f at;
     }
 
 -- the descriptor at a place: "day and block offset (as stored)"
@@ -87,5 +84,5 @@ entryAnswer f d k = entryFrom f d k (calendarOf f)
 
 -- its text as a stretch of the file; nothing where there is no such appointment
 unfoldable pub textIn : List ℕ → EntryAnswer → List ℕ
-textIn f (EntryAnswer.Entry e) = part f (e .«text_place») (e .«text_length»)
+textIn f (EntryAnswer.Entry e) = stretchBytes f (e .text)
 textIn f (EntryAnswer.Refused r) = []

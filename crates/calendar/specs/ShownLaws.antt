@@ -6,7 +6,7 @@ use mathlib.Core.List.{List}
 use native.Mathlib.Omega.{arith}
 use lib.ListN.{length, getD, length-map, List·getD-map}
 use Rattle.prelude.specs.Choice.{lt-skip, lt-take}
-use Rattle.prelude.specs.Bytes.{part}
+use Rattle.prelude.specs.Bytes.{stretchBytes}
 use Rattle.prelude.specs.declared.refusals.Refusal.{Refusal}
 use Rattle.days.specs.Days.{lastDay}
 use Rattle.calendar.specs.File.{Appointment}
@@ -24,7 +24,7 @@ length-shown f d = length-map (placesOn f d) (appointmentAt f)
 -- an entry with its text's bytes
 abbrev pub shownAs : List ℕ → Entry → Appointment
 shownAs f e =
-    record { minute = e .minute .0; flags = e .flags; text = part f (e .«text_place») (e .«text_length») }
+    record { minute = e .minute .0; flags = e .flags; text = stretchBytes f (e .text) }
 
 count-not : {e : Refusal} {n : ℕ} → CountAnswer.Refused e ≡ CountAnswer.Count n → ⊥
 count-not c = let z : _≡_ {A = ℕ} 0 1 = cc in omega arith

@@ -8,15 +8,11 @@ use crate::lists::size_at;
 use crate::types::Entry;
 use crate::types::EntryAnswer;
 use days::types::Minute;
+use prelude::numbers::wide;
 use prelude::refusals::NO_SUCH_NUMBER;
 use prelude::refusals::Refusal;
+use prelude::slices::Stretch;
 use prelude::slices::word_in;
-
-fn wide(b: u8) -> u16
-    ensures { λ r. ⌜ r ≡ b ⌝ }
-{
-    b as u16
-}
 
 // The appointment at a place.
 fn entry_at(file: &[u8], at: usize) -> Entry
@@ -29,8 +25,10 @@ fn entry_at(file: &[u8], at: usize) -> Entry
     Entry {
         minute: Minute(minute),
         flags,
-        text_place: at + 4,
-        text_length: size - 5,
+        text: Stretch {
+            place: at + 4,
+            length: size - 5,
+        },
     }
 }
 

@@ -7,17 +7,11 @@ ghost use Rattle.calendar.specs.ListLaws.{ZeroLast, ListIn};
 ghost use Rattle.calendar.specs.Reader.{blockAt, listPlace, listEnd};
 ghost use Rattle.calendar.specs.ReaderLaws.{BlockAt};
 use crate::types::Span;
+use prelude::numbers::wide_size;
 use prelude::refusals::BAD_APPOINTMENT;
 use prelude::refusals::Refusal;
 use prelude::refusals::Verdict;
 use prelude::slices::word_in;
-
-// A byte as a wider number.
-fn wide(b: u8) -> usize
-    ensures { λ r. ⌜ (r ≡ b) × (r < 256) ⌝ }
-{
-    b as usize
-}
 
 // Where the list of the day lies whose descriptor stands at p.
 pub fn span_of(file: &[u8], p: usize) -> Span
@@ -36,7 +30,7 @@ pub fn size_at(file: &[u8], at: usize) -> usize
     requires { ⌜ at < length (now file) ⌝ }
     ensures { λ r. ⌜ (r ≡ sizeAt (now (file .entry)) at) × (r < 256) ⌝ }
 {
-    wide(file[at])
+    wide_size(file[at])
 }
 
 // Whether the first zero after the minute is the last byte of the appointment at a place: a scan of a few bytes.

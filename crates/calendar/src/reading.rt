@@ -72,12 +72,10 @@ fn judge_days(file: &[u8], count: usize) -> Verdict
 {
     let table_end = 64 + 12 * count;
     let mut p: usize = 64;
-    let mut left = count;
-    while 0 < left {
+    while p < table_end {
         match judge_day(file, p, table_end) {
             Verdict::Fine => {
                 p += 12;
-                left -= 1;
             }
             Verdict::Refused(e) => {
                 return Verdict::Refused(e);

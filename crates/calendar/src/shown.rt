@@ -123,7 +123,7 @@ pub fn text_at(file: &[u8], day: CalendarDay, k: usize) -> &[u8]
 {
     let a = appointment_at(file, day, k);
     match a {
-        EntryAnswer::Entry(e) => part(file, e.text_place, e.text_length),
+        EntryAnswer::Entry(e) => part(file, e.text.place, e.text.length),
         EntryAnswer::Refused(_) => &file[..0],
     }
 }

@@ -2,6 +2,7 @@
 use days::types::CalendarDay;
 use days::types::Minute;
 use prelude::refusals::Refusal;
+use prelude::slices::Stretch;
 
 // The six settings of the head, as stored: early ring in minutes, sound, interval code and interval in minutes, 24-hour flag, start minute.
 pub struct CalendarSettings {
@@ -40,8 +41,7 @@ pub enum CountAnswer {
 pub struct Entry {
     pub minute: Minute,
     pub flags: u16,
-    pub text_place: usize,
-    pub text_length: usize,
+    pub text: Stretch,
 }
 
 pub enum EntryAnswer {

@@ -7,7 +7,7 @@ use Rattle.prelude.specs.Refusals.{outOfRange, refusal}
 use Rattle.book.specs.Examples.{case, case-accepted}
 use Rattle.falls.specs.declared.types.ShortMonth.{ShortMonth}
 use Rattle.digits.specs.Digits.{decimalF, decimal, valueFrom, value, allDigits, isNumber, capped}
-use Rattle.pages.specs.Answers.{askedOf, asked}
+use Rattle.pages.specs.Answers.{validatedDay, validated}
 use Rattle.printing.specs.Examples.{caseHead, caseLine, case-page}
 use Rattle.calendar.specs.Examples as calendar
 use Rattle.export.specs.Examples.{case-file, case-answers}
@@ -42,7 +42,7 @@ refused = refl
 
 -- "One whole case": the two lines
 pub case-answer : response case (Command.Page 4822 ShortMonth.Skip) programRoom ≡ caseHead ++ caseLine
-unfolding response pageResponse asked askedOf ifLt
+unfolding response pageResponse validated validatedDay ifLt
 case-answer = rw (case-accepted, case-page)
 
 -- its export, 192 bytes

@@ -15,10 +15,10 @@ use Rattle.book.specs.Books.{bookOf}
 use Rattle.book.specs.declared.types.BookAnswer.{BookAnswer}
 use Rattle.falls.specs.declared.types.ShortMonth.{ShortMonth}
 use Rattle.digits.specs.DecimalLaws.{length-below, length-word}
-use Rattle.pages.specs.Answers.{askedOf, asked}
-use Rattle.pages.specs.PageLaws.{asked-ready}
+use Rattle.pages.specs.Answers.{validatedDay, validated}
+use Rattle.pages.specs.PageLaws.{validated-ready}
 use Rattle.pages.specs.declared.types.Ready.{Ready}
-use Rattle.pages.specs.declared.types.Asked.{Asked}
+use Rattle.pages.specs.declared.types.Validated.{Validated}
 use Rattle.pages.specs.declared.types.CountAnswer.{CountAnswer}
 use Rattle.printing.specs.Printed.{pageText}
 use Rattle.printing.specs.Answers.{printIn, printLeaves}
@@ -38,24 +38,24 @@ length-refusal e h k =
     simp length-append (omega arith)
 
 -- "the book's own refusals" come first, whatever is asked
-refused-of : (n : ℕ) {b : BookAnswer} {e : Refusal} → b ≡ BookAnswer.Refused e → askedOf (record { 0 = n }) b ≡ Asked.Refused e
-unfolding askedOf
+refused-of : (n : ℕ) {b : BookAnswer} {e : Refusal} → b ≡ BookAnswer.Refused e → validatedDay (record { 0 = n }) b ≡ Validated.Refused e
+unfolding validatedDay
 refused-of n q = rw q
 
 pub book-first : (f : List ℕ) (command : Command) (room : ℕ) {e : Refusal} → bookOf f ≡ BookAnswer.Refused e → response f command room ≡ refusalText e
-unfolding response pageResponse otherResponse asked exportResponse exportText exportAnswer exportFrom
+unfolding response pageResponse otherResponse validated exportResponse exportText exportAnswer exportFrom
 book-first f (Command.Page d c) room q = rw (refused-of d q)
 book-first f (Command.Export d n c) room q = rw q
 book-first f Command.Unknown room q = rw q
 
 -- a number past the last day
-beyond-of : (f : List ℕ) (c : ShortMonth) (room d : ℕ) (b : BookAnswer) → lastDay < d → pageResponse f c room (askedOf (record { 0 = d }) b) ≡ otherResponse b
-unfolding askedOf pageResponse otherResponse
+beyond-of : (f : List ℕ) (c : ShortMonth) (room d : ℕ) (b : BookAnswer) → lastDay < d → pageResponse f c room (validatedDay (record { 0 = d }) b) ≡ otherResponse b
+unfolding validatedDay pageResponse otherResponse
 beyond-of f c room d (BookAnswer.Accepted b) h = ap (pageResponse f c room) (is-lt h _ _)
 beyond-of f c room d (BookAnswer.Refused e) h = refl
 
-pub page-beyond : (f : List ℕ) (c : ShortMonth) (room d : ℕ) → lastDay < d → pageResponse f c room (asked f (record { 0 = d })) ≡ otherResponse (bookOf f)
-unfolding asked
+pub page-beyond : (f : List ℕ) (c : ShortMonth) (room d : ℕ) → lastDay < d → pageResponse f c room (validated f (record { 0 = d })) ≡ otherResponse (bookOf f)
+unfolding validated
 page-beyond f c room d h = beyond-of f c room d (bookOf f) h
 
 -- a span out of range
@@ -69,19 +69,19 @@ unfolding exportResponse exportAnswer
 export-beyond f c room first count h = beyond-span-of f c room first count (bookOf f) h
 
 -- 12 never happens to a page in the program's room
-pub page-whole : (f : List ℕ) (d : ℕ) (c : ShortMonth) {a : Ready} → asked f (record { 0 = d }) ≡ Asked.Ready a → response f (Command.Page d c) programRoom ≡ pageText f c (a .facts)
+pub page-whole : (f : List ℕ) (d : ℕ) (c : ShortMonth) {a : Ready} → validated f (record { 0 = d }) ≡ Validated.Ready a → response f (Command.Page d c) programRoom ≡ pageText f c (a .facts)
 unfolding response pageResponse
 page-whole f d c {a} q =
-    let m = page-most f c a (asked-ready f (record { 0 = d }) q) in
+    let m = page-most f c a (validated-ready f (record { 0 = d }) q) in
     ap (pageResponse f c programRoom) q ∙ is-ge (omega arith) _ _
 
 -- what a printed page's answer says of the bytes that the program writes
-pub record Counted (f : List ℕ) (c : ShortMonth) (out : List ℕ) (q : Asked) (n : ℕ) : Type 0 where
+pub record Counted (f : List ℕ) (c : ShortMonth) (out : List ℕ) (q : Validated) (n : ℕ) : Type 0 where
   pub next : n ≡ length (pageResponse f c (length out) q)
   pub put : printLeaves f c out q ≡ splice out 0 (pageResponse f c (length out) q)
   pub within : n ≤ length out
 
-pub record Refused (f : List ℕ) (c : ShortMonth) (out : List ℕ) (q : Asked) (e : Refusal) : Type 0 where
+pub record Refused (f : List ℕ) (c : ShortMonth) (out : List ℕ) (q : Validated) (e : Refusal) : Type 0 where
   pub text : pageResponse f c (length out) q ≡ refusalText e
   pub left : printLeaves f c out q ≡ out
 
@@ -97,9 +97,9 @@ count-inj e = cc
 refused-inj : {a b : Refusal} → CountAnswer.Refused a ≡ CountAnswer.Refused b → a ≡ b
 refused-inj e = cc
 
-pub print-count : (f : List ℕ) (c : ShortMonth) (out : List ℕ) (q : Asked) {n : ℕ} → printIn f c (length out) q ≡ CountAnswer.Count n → Counted f c out q n
+pub print-count : (f : List ℕ) (c : ShortMonth) (out : List ℕ) (q : Validated) {n : ℕ} → printIn f c (length out) q ≡ CountAnswer.Count n → Counted f c out q n
 unfolding printIn printLeaves pageResponse
-print-count f c out (Asked.Ready a) e =
+print-count f c out (Validated.Ready a) e =
     let p = lt-skip (length out) (length (pageText f c (a .facts))) _ _ count-not e in
     let l : length (pageText f c (a .facts)) ≤ length out = p .0 in
     let n = count-inj (p .1) in
@@ -108,14 +108,14 @@ print-count f c out (Asked.Ready a) e =
       put = is-ge l _ _ ∙ ap (splice out 0) (sym (is-ge l _ _));
       within = omega arith;
     }
-print-count f c out (Asked.Refused r) e = absurd (count-not e)
+print-count f c out (Validated.Refused r) e = absurd (count-not e)
 
-pub print-refused : (f : List ℕ) (c : ShortMonth) (out : List ℕ) (q : Asked) {e : Refusal} → printIn f c (length out) q ≡ CountAnswer.Refused e → Refused f c out q e
+pub print-refused : (f : List ℕ) (c : ShortMonth) (out : List ℕ) (q : Validated) {e : Refusal} → printIn f c (length out) q ≡ CountAnswer.Refused e → Refused f c out q e
 unfolding printIn printLeaves pageResponse
-print-refused f c out (Asked.Ready a) e =
+print-refused f c out (Validated.Ready a) e =
     let p = lt-take (length out) (length (pageText f c (a .facts))) _ _ refused-not e in
     record { text = is-lt (p .0) _ _ ∙ ap refusalText (refused-inj (p .1)); left = is-lt (p .0) _ _ }
-print-refused f c out (Asked.Refused r) e = record { text = ap refusalText (refused-inj e); left = refl }
+print-refused f c out (Validated.Refused r) e = record { text = ap refusalText (refused-inj e); left = refl }
 
 -- the same of an export's
 module _ (f : List ℕ) (c : ShortMonth) (first count : ℕ) (out : List ℕ) where

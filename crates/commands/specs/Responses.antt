@@ -10,8 +10,8 @@ use Rattle.book.specs.Books.{bookOf}
 use Rattle.book.specs.declared.types.BookAnswer.{BookAnswer}
 use Rattle.falls.specs.declared.types.ShortMonth.{ShortMonth}
 use Rattle.digits.specs.Digits.{decimal}
-use Rattle.pages.specs.Answers.{asked}
-use Rattle.pages.specs.declared.types.Asked.{Asked}
+use Rattle.pages.specs.Answers.{validated}
+use Rattle.pages.specs.declared.types.Validated.{Validated}
 use Rattle.printing.specs.Printed.{newline, space, pageText}
 use Rattle.export.specs.Export.{exportFile, exportAnswer, showsUnder}
 use Rattle.export.specs.declared.types.ExportAnswer.{ExportAnswer}
@@ -22,10 +22,10 @@ unfoldable pub refusalText : Refusal → List ℕ
 refusalText e = decimal (e .number) ++ (space ∷ (decimal (e .place) ++ (newline ∷ [])))
 
 -- a day page, in so many bytes of room
-unfoldable pub pageResponse : List ℕ → ShortMonth → ℕ → Asked → List ℕ
-pageResponse f c room (Asked.Ready a) =
+unfoldable pub pageResponse : List ℕ → ShortMonth → ℕ → Validated → List ℕ
+pageResponse f c room (Validated.Ready a) =
     ifLt room (length (pageText f c (a .facts))) (refusalText (refusal noRoom)) (pageText f c (a .facts))
-pageResponse f c room (Asked.Refused e) = refusalText e
+pageResponse f c room (Validated.Refused e) = refusalText e
 
 -- "Its Calendar room is 65,536 bytes"
 abbrev pub programRoom : ℕ
@@ -47,6 +47,6 @@ otherResponse (BookAnswer.Accepted b) = refusalText (refusal outOfRange)
 otherResponse (BookAnswer.Refused e) = refusalText e
 
 unfoldable pub response : List ℕ → Command → ℕ → List ℕ
-response f (Command.Page d c) room = pageResponse f c room (asked f (record { 0 = d }))
+response f (Command.Page d c) room = pageResponse f c room (validated f (record { 0 = d }))
 response f (Command.Export d n c) room = exportResponse f c room d n
 response f Command.Unknown room = otherResponse (bookOf f)

@@ -12,7 +12,7 @@ use Rattle.digits.specs.Digits.{capped}
 use Rattle.digits.specs.NumberLaws.{capped-below, capped-above}
 use Rattle.book.specs.Books.{bookOf}
 use Rattle.book.specs.declared.types.BookAnswer.{BookAnswer}
-use Rattle.pages.specs.Answers.{askedOf, asked}
+use Rattle.pages.specs.Answers.{validatedDay, validated}
 use Rattle.falls.specs.declared.types.ShortMonth.{ShortMonth}
 use Rattle.export.specs.Export.{spanOk}
 use Rattle.export.specs.AnswerLaws.{first-beyond, count-beyond}
@@ -40,17 +40,17 @@ spelled-is w a b c d e =
     four-bytes w (l .0) ∙ rw (e0 .0, e1 .0, e2 .0, e3 .0)
 
 -- "2^32 + 4,822 is 11, not day 4,822": a page is asked for by the number itself
-asked-capped-of : (b : BookAnswer) (v : ℕ) → askedOf (record { 0 = capped v }) b ≡ askedOf (record { 0 = v }) b
-unfolding askedOf
-asked-capped-of (BookAnswer.Accepted b) v =
-    lt-elim {X = Unit {0}} (λ _. askedOf (record { 0 = capped v }) (BookAnswer.Accepted b) ≡ askedOf (record { 0 = v }) (BookAnswer.Accepted b)) v 65536 tt tt
+validated-capped-of : (b : BookAnswer) (v : ℕ) → validatedDay (record { 0 = capped v }) b ≡ validatedDay (record { 0 = v }) b
+unfolding validatedDay
+validated-capped-of (BookAnswer.Accepted b) v =
+    lt-elim {X = Unit {0}} (λ _. validatedDay (record { 0 = capped v }) (BookAnswer.Accepted b) ≡ validatedDay (record { 0 = v }) (BookAnswer.Accepted b)) v 65536 tt tt
     (λ h. rw (capped-below h))
     (λ h. rw (capped-above h) (is-lt (omega arith) _ _ ∙ sym (is-lt (omega arith) _ _)))
-asked-capped-of (BookAnswer.Refused e) v = refl
+validated-capped-of (BookAnswer.Refused e) v = refl
 
-pub asked-capped : (f : List ℕ) (v : ℕ) → asked f (record { 0 = capped v }) ≡ asked f (record { 0 = v })
-unfolding asked
-asked-capped f v = asked-capped-of (bookOf f) v
+pub validated-capped : (f : List ℕ) (v : ℕ) → validated f (record { 0 = capped v }) ≡ validated f (record { 0 = v })
+unfolding validated
+validated-capped f v = validated-capped-of (bookOf f) v
 
 -- the same of an export's first day and count
 module _ (f : List ℕ) (c : ShortMonth) (room v w : ℕ) where

@@ -4,7 +4,7 @@ ghost use Prim.Native.Nat.{_≤_};
 ghost use lib.ListN.{length};
 ghost use Rattle.prelude.specs.Splice.{splice};
 ghost use Rattle.book.specs.Books.{bookOf};
-ghost use Rattle.pages.specs.Answers.{asked};
+ghost use Rattle.pages.specs.Answers.{validated};
 ghost use Rattle.commands.specs.Responses.{refusalText, pageResponse, exportResponse, otherResponse, response};
 use crate::types::Command;
 use book::reading::read_book;
@@ -55,9 +55,9 @@ fn other_response(file: &[u8], out: &mut [u8]) -> usize
 fn page_response(file: &[u8], d: u32, c: ShortMonth, out: &mut [u8]) -> usize
     requires { ⌜ 32 ≤ length (now out) ⌝ }
     ensures next { λ r.
-        ⌜ r ≡ length (pageResponse (now (file .entry)) c (length (now (out .entry))) (asked (now (file .entry)) (record { 0 = d }))) ⌝ }
+        ⌜ r ≡ length (pageResponse (now (file .entry)) c (length (now (out .entry))) (validated (now (file .entry)) (record { 0 = d }))) ⌝ }
     ensures put { λ _.
-        ⌜ now (out .exit) ≡ splice (now (out .entry)) 0 (pageResponse (now (file .entry)) c (length (now (out .entry))) (asked (now (file .entry)) (record { 0 = d }))) ⌝ }
+        ⌜ now (out .exit) ≡ splice (now (out .entry)) 0 (pageResponse (now (file .entry)) c (length (now (out .entry))) (validated (now (file .entry)) (record { 0 = d }))) ⌝ }
     ensures within { λ r. ⌜ r ≤ length (now (out .entry)) ⌝ }
 {
     if 65535 < d {

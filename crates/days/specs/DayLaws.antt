@@ -55,7 +55,7 @@ next-month i k e =
     ∙ lt-elim (λ z. z ≡ dateIn (suc i) 0) (monthAt i) 12 _ _ (λ l. same-date (omega arith) (omega arith) (omega arith))
     (λ g. same-date (omega arith) (omega arith) (omega arith))
 
-date-suc : (n : ℕ) → dateOf (suc n) ≡ nextDate (dateOf n)
+pub date-suc : (n : ℕ) → dateOf (suc n) ≡ nextDate (dateOf n)
 unfolding dateOf
 date-suc n = refl
 

@@ -76,12 +76,12 @@ pub fn date_of_day(n: CalendarDay) -> DateAnswer
     DateAnswer::Date(date_of(n.0))
 }
 
-// The weekday of a day in range, 1 = Sunday to 7 = Saturday.
+// The weekday of a day in range, 1 = Sunday to 7 = Saturday. 65,536 is 2 past a multiple of 7: beyond 16 bits the remainder costs fewer instructions.
 pub fn weekday_of(n: u16) -> u16
     requires { ⌜ n ≤ lastDay ⌝ }
     ensures { λ r. ⌜ r ≡ weekdayOf n ⌝ }
 {
-    (n + 2) % 7 + 1
+    ((n as u32 + 65536) % 7 + 1) as u16
 }
 
 // The weekday of a Calendar day.

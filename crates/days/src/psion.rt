@@ -11,19 +11,15 @@ use prelude::refusals::Refusal;
 pub fn calendar_of_psion(p: PsionDay) -> DayAnswer
     ensures { λ r. ⌜ r ≡ calendarOfPsion p ⌝ }
 {
-    if p.0 < 3652 {
-        return DayAnswer::Refused(Refusal {
-            number: OUT_OF_RANGE,
-            place: 0,
-        });
+    if 3652 <= p.0 {
+        if p.0 <= 29219 {
+            return DayAnswer::Day(CalendarDay(p.0 - 3652));
+        }
     }
-    if 29219 < p.0 {
-        return DayAnswer::Refused(Refusal {
-            number: OUT_OF_RANGE,
-            place: 0,
-        });
-    }
-    DayAnswer::Day(CalendarDay(p.0 - 3652))
+    DayAnswer::Refused(Refusal {
+        number: OUT_OF_RANGE,
+        place: 0,
+    })
 }
 
 pub fn psion_of_calendar(n: CalendarDay) -> PsionAnswer

@@ -15,7 +15,7 @@ use Rattle.book.specs.Books.{bookOf}
 use Rattle.book.specs.declared.types.Book.{Book}
 use Rattle.book.specs.declared.types.BookAnswer.{BookAnswer}
 use Rattle.pages.specs.Pages.{Numbered}
-use Rattle.export.specs.Export.{spanOk, exportDays, exportFile, tooFar, sized, exportFrom, exportAnswer, leaves, exportLeaves}
+use Rattle.export.specs.Export.{spanOk, exportDays, exportFile, pastLastBlock, sized, spanAnswer, exportFrom, exportAnswer, leaves, exportLeaves}
 use Rattle.export.specs.declared.types.ExportAnswer.{ExportAnswer}
 
 -- a first day and a count in range
@@ -52,47 +52,51 @@ refused-not c = let z : _≡_ {A = ℕ} 0 1 = cc in omega arith
 written-inj : {n m : ℕ} → ExportAnswer.Written n ≡ ExportAnswer.Written m → n ≡ m
 written-inj e = cc
 
--- the two sizes
-pub sized-far : (room size : ℕ) {far : Bool} → far ≡ true → sized room far size ≡ ExportAnswer.Refused (refusal tooManyBlocks)
-unfolding sized
-sized-far room size h = is-true h _ _
-
-pub sized-short : {room size : ℕ} {far : Bool} → far ≡ false → room < size → sized room far size ≡ ExportAnswer.Refused (refusal noRoom)
-unfolding sized
-sized-short h l = is-false h _ _ ∙ is-lt l _ _
-
-pub sized-fits : {room size : ℕ} {far : Bool} → far ≡ false → size ≤ room → sized room far size ≡ ExportAnswer.Written size
-unfolding sized
-sized-fits h l = is-false h _ _ ∙ is-ge l _ _
-
 module _ (shows : ℕ → Numbered → Bool) (f : List ℕ) (first count : ℕ) where
+  -- the two sizes
+  pub span-past : (room : ℕ) → pastLastBlock (exportDays shows f first count) ≡ true → spanAnswer shows f first count room ≡ ExportAnswer.Refused (refusal tooManyBlocks)
+  unfolding spanAnswer sized
+  span-past room h = is-true h _ _
+
+  pub span-short : {room : ℕ} → pastLastBlock (exportDays shows f first count) ≡ false → room < length (exportFile shows f first count) → spanAnswer shows f first count room ≡ ExportAnswer.Refused (refusal noRoom)
+  unfolding spanAnswer sized
+  span-short h l = is-false h _ _ ∙ is-lt l _ _
+
+  pub span-fits : {room : ℕ} → pastLastBlock (exportDays shows f first count) ≡ false → length (exportFile shows f first count) ≤ room → spanAnswer shows f first count room ≡ ExportAnswer.Written (length (exportFile shows f first count))
+  unfolding spanAnswer sized
+  span-fits h l = is-false h _ _ ∙ is-ge l _ _
+
   -- of an accepted book and a span in range
-  pub answer-sized : (room : ℕ) {b : Book} → bookOf f ≡ BookAnswer.Accepted b → spanOk first count ≡ true → exportAnswer shows f first count room ≡ sized room (tooFar (exportDays shows f first count)) (length (exportFile shows f first count))
+  pub answer-span : (room : ℕ) {b : Book} → bookOf f ≡ BookAnswer.Accepted b → spanOk first count ≡ true → exportAnswer shows f first count room ≡ spanAnswer shows f first count room
   unfolding exportAnswer exportFrom
-  answer-sized room e s = rw e (is-true s _ _)
+  answer-span room e s = rw e (is-true s _ _)
 
   -- success: an accepted book, a span in range, neither size passed; the file is as long as said
   pub record Success (room n : ℕ) : Type 0 where
     pub book : Book
     pub accepted : bookOf f ≡ BookAnswer.Accepted book
     pub span : Span first count
-    pub near : tooFar (exportDays shows f first count) ≡ false
+    pub near : pastLastBlock (exportDays shows f first count) ≡ false
     pub long : length (exportFile shows f first count) ≡ n
     pub enough : n ≤ room
 
-  sized-written : (room size n : ℕ) (far : Bool) → sized room far size ≡ ExportAnswer.Written n → (far ≡ false) × (size ≡ n) × (n ≤ room)
+  sized-written : (room size n : ℕ) (past : Bool) → sized room past size ≡ ExportAnswer.Written n → (past ≡ false) × (size ≡ n) × (n ≤ room)
   unfolding sized
-  sized-written room size n far h =
-      let e1 = b-skip far _ _ refused-not h in
+  sized-written room size n past h =
+      let e1 = b-skip past _ _ refused-not h in
       let e2 = lt-skip room size _ _ refused-not (e1 .1) in
       let e3 : size ≡ n = written-inj (e2 .1) in
       (e1 .0, e3, omega (arith, e2 .0))
+
+  pub span-written : (room n : ℕ) → spanAnswer shows f first count room ≡ ExportAnswer.Written n → (pastLastBlock (exportDays shows f first count) ≡ false) × (length (exportFile shows f first count) ≡ n) × (n ≤ room)
+  unfolding spanAnswer
+  span-written room n h = sized-written room (length (exportFile shows f first count)) n (pastLastBlock (exportDays shows f first count)) h
 
   success-from : (room n : ℕ) (b : BookAnswer) → bookOf f ≡ b → exportFrom shows f first count room b ≡ ExportAnswer.Written n → Success room n
   unfolding exportFrom
   success-from room n (BookAnswer.Accepted b) e h =
       let s = b-take (spanOk first count) _ _ refused-not h in
-      let z = sized-written room (length (exportFile shows f first count)) n (tooFar (exportDays shows f first count)) (s .1) in
+      let z = span-written room n (s .1) in
       record { book = b; accepted = e; span = span-facts (s .0); near = z .0; long = z .1; enough = z .2 }
   success-from room n (BookAnswer.Refused r) e h = absurd (refused-not h)
 

@@ -7,13 +7,14 @@ use mathlib.Core.List.{List, [], _∷_, List·Memᴰ, Memᴰ·of-map}
 use native.Mathlib.Omega.{arith}
 use lib.Dec.{eqb}
 use lib.ListN.{length, length-append, length-map}
+use Rattle.prelude.specs.Bytes.{bit, bit-most}
 use Rattle.prelude.specs.Choice.{ifB, eq-elim}
 use Rattle.prelude.specs.Keep.{keep, keep-member}
 use Rattle.prelude.specs.Order.{Sorted, sorted, sort-member, member-at-least, map-sort}
 use Rattle.calendar.specs.File.{Appointment, appointmentsBytes, alarms}
-use Rattle.pages.specs.Pages.{Numbered, numbered, hours, startOf, pageOf}
+use Rattle.pages.specs.Pages.{Numbered, numbered, recordTimes, startOf, pageOf}
 use Rattle.pages.specs.PageLaws.{length-page}
-use Rattle.export.specs.Export.{bit, specialTime, appointmentOf, appointmentsFor}
+use Rattle.export.specs.Export.{specialTime, appointmentOf, appointmentsFor}
 use Rattle.calendar.specs.FileLaws.{length-appointment}
 use Rattle.prelude.specs.Totals.{total, total-sort, total-keep, total-map, total-cong}
 use Rattle.export.specs.ListRead.{GoodAppointment}
@@ -29,12 +30,7 @@ unfolding appointmentsBytes total
 length-appointments [] = refl
 length-appointments (a ∷ al) = simp (length-append, length-appointment, length-appointments al)
 
--- a mark is 0 or 1, a special time 0 or 2
-pub bit-most : (b : Bool) → bit b ≤ 1
-unfolding bit ifB
-bit-most true = omega arith
-bit-most false = omega arith
-
+-- a special time is 0 or 2
 pub special-most : (i m : ℕ) → specialTime i m ≤ 2
 unfolding specialTime
 special-most i m = eq-elim (λ (s : ℕ). s ≤ 2) (m % i) 0 0 2 (λ _. omega arith) (λ _. omega arith)
@@ -72,9 +68,9 @@ module _ (shows : ℕ → Numbered → Bool) (f : List ℕ) (interval d : ℕ) w
   unfolding appointmentOf
   bytes-for = length-appointments (appointmentsFor shows f interval d) ∙ by-records bytesOf (sizeOf f) (λ x. refl)
 
-  pub alarms-for : alarms (appointmentsFor shows f interval d) ≡ total (λ x. bit (hours x .alarm)) (keep (shows d) (numbered f))
+  pub alarms-for : alarms (appointmentsFor shows f interval d) ≡ total (λ x. bit (recordTimes x .alarm)) (keep (shows d) (numbered f))
   unfolding appointmentOf
-  alarms-for = alarms-total (appointmentsFor shows f interval d) ∙ by-records (λ a. a .flags % 2) (λ x. bit (hours x .alarm)) (λ x. flag-bit (hours x .alarm) interval (startOf x))
+  alarms-for = alarms-total (appointmentsFor shows f interval d) ∙ by-records (λ a. a .flags % 2) (λ x. bit (recordTimes x .alarm)) (λ x. flag-bit (recordTimes x .alarm) interval (startOf x))
 
 module _ (f : List ℕ) (interval : ℕ) where
   good-appointment : (x : Numbered) → GoodRecord f x → GoodAppointment (appointmentOf f interval x)
@@ -82,7 +78,7 @@ module _ (f : List ℕ) (interval : ℕ) where
   good-appointment x g =
       record {
         clean = g .clean;
-        flags = omega (arith, bit-most (hours x .alarm), special-most interval (startOf x));
+        flags = omega (arith, bit-most (recordTimes x .alarm), special-most interval (startOf x));
         minute = g .minute;
       }
 

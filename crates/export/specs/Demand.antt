@@ -11,12 +11,12 @@ use Rattle.prelude.specs.Refusals.{noRoom, tooManyBlocks, refusal}
 use Rattle.book.specs.Books.{bookOf}
 use Rattle.book.specs.declared.types.Book.{Book}
 use Rattle.book.specs.declared.types.BookAnswer.{BookAnswer}
-use Rattle.pages.specs.Pages.{Numbered, hours, startOf, pageOf}
+use Rattle.pages.specs.Pages.{Numbered, recordTimes, startOf, pageOf}
 use Rattle.calendar.specs.File.{Appointment}
 use Rattle.calendar.specs.Reader.{countOf, calendarOf}
 use Rattle.calendar.specs.Shown.{appointmentsOn}
 use Rattle.calendar.specs.declared.types.CalendarAnswer.{CalendarAnswer}
-use Rattle.export.specs.Export.{spanOk, textOf, exportDays, exportFile, tooFar}
+use Rattle.export.specs.Export.{spanOk, textOf, exportDays, exportFile, pastLastBlock}
 use Rattle.export.specs.declared.types.ExportAnswer.{ExportAnswer}
 
 -- what the two lists hold
@@ -27,7 +27,7 @@ pub record Showing : Type 0 where
 
 -- "start minute, state bit 0 and text of each record that falls on it"
 abbrev pub listed : List ℕ → Numbered → Showing
-listed book x = record { minute = startOf x; alarm = hours x .alarm; text = textOf book x }
+listed book x = record { minute = startOf x; alarm = recordTimes x .alarm; text = textOf book x }
 
 -- "minute, flag 1 and text of the day's appointments in the written file"
 abbrev pub shown : Appointment → Showing
@@ -44,19 +44,19 @@ pub record SameDays (shows : ℕ → Numbered → Bool) (book : List ℕ) (first
   pub after : (d : ℕ) → first + count ≤ d → appointmentsOn file d ≡ []
 
 -- "Its sizes are those of 12 and 13": what is answered where a file of that size is to be written to a buffer of that room
-pub record Sizes (far : Bool) (size room : ℕ) (answer : ExportAnswer) : Type 0 where
+pub record Sizes (past : Bool) (size room : ℕ) (answer : ExportAnswer) : Type 0 where
   -- 13 where a day's block would start at block 32,768 or later
-  pub thirteen : far ≡ true → answer ≡ ExportAnswer.Refused (refusal tooManyBlocks)
+  pub thirteen : past ≡ true → answer ≡ ExportAnswer.Refused (refusal tooManyBlocks)
   -- else 12 where the buffer is shorter than the file
-  pub twelve : far ≡ false → room < size → answer ≡ ExportAnswer.Refused (refusal noRoom)
+  pub twelve : past ≡ false → room < size → answer ≡ ExportAnswer.Refused (refusal noRoom)
   -- else the file is written
-  pub written : far ≡ false → size ≤ room → answer ≡ ExportAnswer.Written size
+  pub written : past ≡ false → size ≤ room → answer ≡ ExportAnswer.Written size
 
 -- Demand 3 of an export that found a buffer `out`, gave `answer` and left the buffer as `left`.
 pub record Demand3 (shows : ℕ → Numbered → Bool) (book : List ℕ) (first count : ℕ) (out : List ℕ) (answer : ExportAnswer) (left : List ℕ) : Type 0 where
   -- An accepted book and a span in range are refused exactly where one of the two sizes is passed.
   pub sizes :
       (b : Book) → bookOf book ≡ BookAnswer.Accepted b → spanOk first count ≡ true
-      → Sizes (tooFar (exportDays shows book first count)) (length (exportFile shows book first count)) (length out) answer
+      → Sizes (pastLastBlock (exportDays shows book first count)) (length (exportFile shows book first count)) (length out) answer
   -- The bytes that were written are a Calendar file that is accepted and shows the days of the span as the pages list them, and no others.
   pub same : (n : ℕ) → answer ≡ ExportAnswer.Written n → SameDays shows book first count (take n left)

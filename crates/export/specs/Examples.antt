@@ -5,7 +5,7 @@ use mathlib.Core.Path.{_≡_, refl}
 use mathlib.Core.Bool.{Bool, true, false}
 use mathlib.Core.List.{[], _∷_, _++_}
 use Rattle.prelude.specs.Choice.{ifLt, ifEq, ifB}
-use Rattle.prelude.specs.Bytes.{le16}
+use Rattle.prelude.specs.Bytes.{bit, le16}
 use Rattle.prelude.specs.Keep.{keep}
 use Rattle.prelude.specs.Order.{insert, sort}
 use Rattle.prelude.specs.Refusals.{noRoom, refusal}
@@ -15,7 +15,7 @@ use Rattle.days.specs.Days.{dateOf, nextDate, weekdayOf, nextWeekday}
 use Rattle.days.specs.Facts.{factsOf}
 use Rattle.records.specs.Fields.{datedOf, recordOf, fixedOf}
 use Rattle.records.specs.Ranges.{timesOk, datedOk}
-use Rattle.records.specs.Notes.{noZero, linesOf, shortLines, noteOk}
+use Rattle.notes.specs.Notes.{noZero, linesOf, shortLines, noteOk}
 use Rattle.records.specs.Bodies.{lengthsFit, lengthsOk, fieldsOk, textsOk, judgeBody}
 use Rattle.book.specs.Settings.{sameBytes, identified, settingsInRange, settingsOf, flagsOk, settingsOk}
 use Rattle.book.specs.Walk.{judgeHead, judged, stepAt, walkF, walkFrom, walkOf, placesIn}
@@ -27,7 +27,7 @@ use Rattle.falls.specs.declared.types.ShortMonth.{ShortMonth}
 use Rattle.pages.specs.Pages.{Numbered, numberedFrom, numbered, pageOf}
 use Rattle.calendar.specs.File.{zeros, filled, appointmentBytes, appointmentsBytes, blockBytes, blocks, alarms, descriptorBytes, table, headBytes, fileOf}
 use Rattle.calendar.specs.Examples as calendar
-use Rattle.export.specs.Export.{bit, codeOf, intervalOf, settingsFor, specialTime, appointmentOf, appointmentsFor, dayBefore, daysWith, exportDays, exportFile, farFrom, tooFar, sized, spanOk, exportFrom, exportAnswer, leaves, exportLeaves, showsUnder}
+use Rattle.export.specs.Export.{codeOf, intervalOf, settingsFor, specialTime, appointmentOf, appointmentsFor, addDay, daysWith, exportDays, exportFile, pastLastBlockFrom, pastLastBlock, sized, spanAnswer, spanOk, exportFrom, exportAnswer, leaves, exportLeaves, showsUnder}
 use Rattle.export.specs.declared.types.ExportAnswer.{ExportAnswer}
 
 abbrev shows : ℕ → Numbered → Bool
@@ -35,22 +35,22 @@ shows = showsUnder ShortMonth.Skip
 
 -- "Export of a span with that day, 192 bytes"
 pub case-file : exportFile shows case 4820 7 ≡ calendar.case
-unfolding exportFile exportDays daysWith dayBefore appointmentsFor appointmentOf specialTime settingsFor intervalOf codeOf bit settingsOf pageOf sort insert keep numbered numberedFrom entriesOf entryAt placesOf placesIn walkOf walkFrom walkF stepAt judgeHead judged judgeBody lengthsOk lengthsFit fieldsOk textsOk datedOf recordOf fixedOf datedOk timesOk real monthLength leap noZero noteOk linesOf shortLines timesOf falls datedFalls factsOf dateOf nextDate weekdayOf nextWeekday fileOf headBytes table descriptorBytes alarms filled blocks blockBytes appointmentsBytes appointmentBytes le16 ifLt ifEq ifB
+unfolding exportFile exportDays daysWith addDay appointmentsFor appointmentOf specialTime settingsFor intervalOf codeOf bit settingsOf pageOf sort insert keep numbered numberedFrom entriesOf entryAt placesOf placesIn walkOf walkFrom walkF stepAt judgeHead judged judgeBody lengthsOk lengthsFit fieldsOk textsOk datedOf recordOf fixedOf datedOk timesOk real monthLength leap noZero noteOk linesOf shortLines timesOf falls datedFalls factsOf dateOf nextDate weekdayOf nextWeekday fileOf headBytes table descriptorBytes alarms filled blocks blockBytes appointmentsBytes appointmentBytes le16 ifLt ifEq ifB
 case-file = refl
 
 -- "A span without it: 64 bytes, count 0."
 pub empty-files : (exportFile shows case 4823 7 ≡ calendar.emptyCase) × (exportFile shows case 4822 0 ≡ calendar.emptyCase)
-unfolding exportFile exportDays daysWith dayBefore appointmentsFor appointmentOf specialTime settingsFor intervalOf codeOf bit settingsOf pageOf sort insert keep numbered numberedFrom entriesOf entryAt placesOf placesIn walkOf walkFrom walkF stepAt judgeHead judged judgeBody lengthsOk lengthsFit fieldsOk textsOk datedOf recordOf fixedOf datedOk timesOk real monthLength leap noZero noteOk linesOf shortLines timesOf falls datedFalls factsOf dateOf nextDate weekdayOf nextWeekday fileOf headBytes table descriptorBytes alarms filled blocks blockBytes appointmentsBytes appointmentBytes le16 ifLt ifEq ifB
+unfolding exportFile exportDays daysWith addDay appointmentsFor appointmentOf specialTime settingsFor intervalOf codeOf bit settingsOf pageOf sort insert keep numbered numberedFrom entriesOf entryAt placesOf placesIn walkOf walkFrom walkF stepAt judgeHead judged judgeBody lengthsOk lengthsFit fieldsOk textsOk datedOf recordOf fixedOf datedOk timesOk real monthLength leap noZero noteOk linesOf shortLines timesOf falls datedFalls factsOf dateOf nextDate weekdayOf nextWeekday fileOf headBytes table descriptorBytes alarms filled blocks blockBytes appointmentsBytes appointmentBytes le16 ifLt ifEq ifB
 empty-files = (refl, refl)
 
 -- a room of 192 bytes is just enough; the program's
 pub case-answers : (exportAnswer shows case 4820 7 192 ≡ ExportAnswer.Written 192) × (exportAnswer shows case 4820 7 191 ≡ ExportAnswer.Refused (refusal noRoom)) × (exportAnswer shows case 4820 7 65536 ≡ ExportAnswer.Written 192)
-unfolding exportAnswer exportFrom sized tooFar farFrom spanOk bookOf counted accepted afterEndRecord identified sameBytes settingsOk settingsInRange flagsOk exportFile exportDays daysWith dayBefore appointmentsFor appointmentOf specialTime settingsFor intervalOf codeOf bit settingsOf pageOf sort insert keep numbered numberedFrom entriesOf entryAt placesOf placesIn walkOf walkFrom walkF stepAt judgeHead judged judgeBody lengthsOk lengthsFit fieldsOk textsOk datedOf recordOf fixedOf datedOk timesOk real monthLength leap noZero noteOk linesOf shortLines timesOf falls datedFalls factsOf dateOf nextDate weekdayOf nextWeekday fileOf headBytes table descriptorBytes alarms filled blocks blockBytes appointmentsBytes appointmentBytes le16 ifLt ifEq ifB
+unfolding exportAnswer exportFrom spanAnswer sized pastLastBlock pastLastBlockFrom spanOk bookOf counted accepted afterEndRecord identified sameBytes settingsOk settingsInRange flagsOk exportFile exportDays daysWith addDay appointmentsFor appointmentOf specialTime settingsFor intervalOf codeOf bit settingsOf pageOf sort insert keep numbered numberedFrom entriesOf entryAt placesOf placesIn walkOf walkFrom walkF stepAt judgeHead judged judgeBody lengthsOk lengthsFit fieldsOk textsOk datedOf recordOf fixedOf datedOk timesOk real monthLength leap noZero noteOk linesOf shortLines timesOf falls datedFalls factsOf dateOf nextDate weekdayOf nextWeekday fileOf headBytes table descriptorBytes alarms filled blocks blockBytes appointmentsBytes appointmentBytes le16 ifLt ifEq ifB
 case-answers = (refl, refl, refl)
 
 -- "bytes past the written length are as before"
 pub case-left : exportLeaves shows case 4820 7 (zeros 192 ++ (1 ∷ (2 ∷ []))) ≡ calendar.case ++ (1 ∷ (2 ∷ []))
-unfolding exportLeaves leaves splice exportAnswer exportFrom sized tooFar farFrom spanOk bookOf counted accepted afterEndRecord identified sameBytes settingsOk settingsInRange flagsOk exportFile exportDays daysWith dayBefore appointmentsFor appointmentOf specialTime settingsFor intervalOf codeOf bit settingsOf pageOf sort insert keep numbered numberedFrom entriesOf entryAt placesOf placesIn walkOf walkFrom walkF stepAt judgeHead judged judgeBody lengthsOk lengthsFit fieldsOk textsOk datedOf recordOf fixedOf datedOk timesOk real monthLength leap noZero noteOk linesOf shortLines timesOf falls datedFalls factsOf dateOf nextDate weekdayOf nextWeekday fileOf headBytes table descriptorBytes alarms filled blocks blockBytes appointmentsBytes appointmentBytes le16 ifLt ifEq ifB
+unfolding exportLeaves leaves splice exportAnswer exportFrom spanAnswer sized pastLastBlock pastLastBlockFrom spanOk bookOf counted accepted afterEndRecord identified sameBytes settingsOk settingsInRange flagsOk exportFile exportDays daysWith addDay appointmentsFor appointmentOf specialTime settingsFor intervalOf codeOf bit settingsOf pageOf sort insert keep numbered numberedFrom entriesOf entryAt placesOf placesIn walkOf walkFrom walkF stepAt judgeHead judged judgeBody lengthsOk lengthsFit fieldsOk textsOk datedOf recordOf fixedOf datedOk timesOk real monthLength leap noZero noteOk linesOf shortLines timesOf falls datedFalls factsOf dateOf nextDate weekdayOf nextWeekday fileOf headBytes table descriptorBytes alarms filled blocks blockBytes appointmentsBytes appointmentBytes le16 ifLt ifEq ifB
 case-left = refl
 
 -- 0, 366 and 367 days; the first and the last day

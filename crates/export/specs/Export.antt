@@ -6,7 +6,7 @@ use mathlib.Core.Bool.{Bool, true, false}
 use mathlib.Core.List.{List, [], _∷_, map}
 use lib.ListN.{length}
 use Rattle.prelude.specs.Choice.{ifLt, ifEq, ifB}
-use Rattle.prelude.specs.Bytes.{part}
+use Rattle.prelude.specs.Bytes.{bit, stretchBytes}
 use Rattle.prelude.specs.Refusals.{outOfRange, noRoom, tooManyBlocks, refusal}
 use Rattle.prelude.specs.Splice.{splice}
 use Rattle.days.specs.Days.{lastDay}
@@ -16,7 +16,7 @@ use Rattle.book.specs.Settings.{settingsOf}
 use Rattle.book.specs.declared.types.BookAnswer.{BookAnswer}
 use Rattle.book.specs.declared.types.Settings.{Settings}
 use Rattle.falls.specs.declared.types.ShortMonth.{ShortMonth}
-use Rattle.pages.specs.Pages.{Numbered, hours, startOf, pageOf, fallsOn}
+use Rattle.pages.specs.Pages.{Numbered, recordTimes, startOf, pageOf, fallsOn}
 use Rattle.calendar.specs.File.{Appointment, Day, units, blockBytes, firstUnit, fileOf}
 use Rattle.calendar.specs.declared.types.CalendarSettings.{CalendarSettings}
 use Rattle.export.specs.declared.types.ExportAnswer.{ExportAnswer}
@@ -24,10 +24,6 @@ use Rattle.export.specs.declared.types.ExportAnswer.{ExportAnswer}
 -- "The export takes a first day, a Calendar day even when the count is 0, and a count of days, 0 to 366, with first + count at most 43,830."
 unfoldable pub spanOk : ℕ → ℕ → Bool
 spanOk first count = ifLt lastDay first false (ifLt 366 count false (ifLt (lastDay + 1) (first + count) false true))
-
--- a mark as a number
-unfoldable pub bit : Bool → ℕ
-bit b = ifB b 1 0
 
 -- "granularity 15, 30 or 60 as its code and minutes and anything else as 30"; "interval code (0 = 15, 1 = 30, 2 = 60 minutes)"
 unfoldable pub codeOf : ℕ → ℕ
@@ -54,26 +50,26 @@ specialTime interval minute = ifEq (minute % interval) 0 0 2
 
 -- a record's text in the file
 abbrev pub textOf : List ℕ → Numbered → List ℕ
-textOf f x = part f (x .entry .text .place) (x .entry .text .length)
+textOf f x = stretchBytes f (x .entry .text)
 
 -- a record as an appointment: "flags (1 alarm, 2 special time), minute, text"; "Dropped: end minutes, own lead times, notes, to-dos."
 unfoldable pub appointmentOf : List ℕ → ℕ → Numbered → Appointment
 appointmentOf f interval x =
-    record { minute = startOf x; flags = bit (hours x .alarm) + specialTime interval (startOf x); text = textOf f x }
+    record { minute = startOf x; flags = bit (recordTimes x .alarm) + specialTime interval (startOf x); text = textOf f x }
 
 -- a day's appointments, in page order
 unfoldable pub appointmentsFor : (ℕ → Numbered → Bool) → List ℕ → ℕ → ℕ → List Appointment
 appointmentsFor shows f interval d = map (appointmentOf f interval) (pageOf (shows d) f)
 
 -- "One descriptor for each day with appointments": a day in front of those after it
-unfoldable pub dayBefore : ℕ → List Appointment → List Day → List Day
-dayBefore d [] ds = ds
-dayBefore d (a ∷ al) ds = record { day = d; appointments = a ∷ al } ∷ ds
+unfoldable pub addDay : ℕ → List Appointment → List Day → List Day
+addDay d [] ds = ds
+addDay d (a ∷ al) ds = record { day = d; appointments = a ∷ al } ∷ ds
 
 -- "rising": of count days from d on those with appointments, where `list` gives a day's
 unfoldable pub daysWith : (ℕ → List Appointment) → ℕ → ℕ → List Day
 daysWith list zero d = []
-daysWith list (suc count) d = dayBefore d (list d) (daysWith list count (suc d))
+daysWith list (suc count) d = addDay d (list d) (daysWith list count (suc d))
 
 -- the days of a span
 unfoldable pub exportDays : (ℕ → Numbered → Bool) → List ℕ → ℕ → ℕ → List Day
@@ -85,24 +81,28 @@ unfoldable pub exportFile : (ℕ → Numbered → Bool) → List ℕ → ℕ →
 exportFile shows f first count = fileOf (settingsFor (settingsOf f)) (exportDays shows f first count)
 
 -- "a day's block would start at block 32,768 or later", where the first starts at block u
-unfoldable pub farFrom : ℕ → List Day → Bool
-farFrom u [] = false
-farFrom u (d ∷ ds) = ifLt 32767 u true (farFrom (u + units (length (blockBytes d))) ds)
+unfoldable pub pastLastBlockFrom : ℕ → List Day → Bool
+pastLastBlockFrom u [] = false
+pastLastBlockFrom u (d ∷ ds) = ifLt 32767 u true (pastLastBlockFrom (u + units (length (blockBytes d))) ds)
 
-unfoldable pub tooFar : List Day → Bool
-tooFar ds = farFrom (firstUnit (length ds)) ds
+unfoldable pub pastLastBlock : List Day → Bool
+pastLastBlock ds = pastLastBlockFrom (firstUnit (length ds)) ds
 
 -- 13, then "12: lent buffer shorter than the file"
 unfoldable pub sized : ℕ → Bool → ℕ → ExportAnswer
-sized room far size =
-    ifB far (ExportAnswer.Refused (refusal tooManyBlocks))
+sized room past size =
+    ifB past (ExportAnswer.Refused (refusal tooManyBlocks))
     (ifLt room size (ExportAnswer.Refused (refusal noRoom)) (ExportAnswer.Written size))
+
+-- a span of an accepted book
+unfoldable pub spanAnswer : (ℕ → Numbered → Bool) → List ℕ → ℕ → ℕ → ℕ → ExportAnswer
+spanAnswer shows f first count room =
+    sized room (pastLastBlock (exportDays shows f first count)) (length (exportFile shows f first count))
 
 -- "Calls on a book give these first, then 11, 10, 13, 12."
 unfoldable pub exportFrom : (ℕ → Numbered → Bool) → List ℕ → ℕ → ℕ → ℕ → BookAnswer → ExportAnswer
 exportFrom shows f first count room (BookAnswer.Accepted b) =
-    ifB (spanOk first count) (sized room (tooFar (exportDays shows f first count)) (length (exportFile shows f first count)))
-    (ExportAnswer.Refused (refusal outOfRange))
+    ifB (spanOk first count) (spanAnswer shows f first count room) (ExportAnswer.Refused (refusal outOfRange))
 exportFrom shows f first count room (BookAnswer.Refused e) = ExportAnswer.Refused e
 
 unfoldable pub exportAnswer : (ℕ → Numbered → Bool) → List ℕ → ℕ → ℕ → ℕ → ExportAnswer
@@ -113,7 +113,11 @@ unfoldable pub leaves : List ℕ → List ℕ → ExportAnswer → List ℕ
 leaves file out (ExportAnswer.Written n) = splice out 0 file
 leaves file out (ExportAnswer.Refused e) = out
 
--- the lent buffer, which was out
+-- the lent buffer, which was out: after a span of an accepted book, and after any call
+unfoldable pub spanLeaves : (ℕ → Numbered → Bool) → List ℕ → ℕ → ℕ → List ℕ → List ℕ
+spanLeaves shows f first count out =
+    leaves (exportFile shows f first count) out (spanAnswer shows f first count (length out))
+
 unfoldable pub exportLeaves : (ℕ → Numbered → Bool) → List ℕ → ℕ → ℕ → List ℕ → List ℕ
 exportLeaves shows f first count out =
     leaves (exportFile shows f first count) out (exportAnswer shows f first count (length out))

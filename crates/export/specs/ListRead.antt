@@ -10,7 +10,7 @@ use Rattle.prelude.specs.Choice.{eq-skip}
 use Rattle.prelude.specs.Bytes.{le16}
 use Rattle.prelude.specs.Order.{AtLeast, Sorted}
 use Rattle.prelude.specs.declared.refusals.Verdict.{Verdict}
-use Rattle.records.specs.Notes.{noZero}
+use Rattle.notes.specs.Notes.{noZero}
 use Rattle.calendar.specs.File.{Appointment, appointmentBytes, appointmentsBytes}
 use Rattle.calendar.specs.Lists.{sizeAt, flagsAt, minuteAt, nextAt, firstZero, walkFrom, placesIn, verdictIn}
 use Rattle.calendar.specs.Shown.{appointmentAt}

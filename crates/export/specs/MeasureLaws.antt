@@ -10,7 +10,7 @@ use lib.ListN.{length}
 use Rattle.prelude.specs.Choice.{ifLt, is-lt, is-ge, lt-elim}
 use Rattle.calendar.specs.File.{Day, units, blockBytes, blocks, firstUnit, fileOf}
 use Rattle.calendar.specs.declared.types.CalendarSettings.{CalendarSettings}
-use Rattle.export.specs.Export.{farFrom, tooFar}
+use Rattle.export.specs.Export.{pastLastBlockFrom, pastLastBlock}
 use Rattle.calendar.specs.FileLaws.{length-blocks, length-file}
 use Rattle.prelude.specs.Totals.{total}
 
@@ -36,26 +36,26 @@ unfolding beforeLast
 before-least last u [] h = omega arith
 before-least last u (d ∷ ds) h = omega (arith, before-least u (u + unitsOf d) ds (omega arith))
 
-far-before : (s u : ℕ) (d : Day) (ds : List Day) → farFrom (s + u) (d ∷ ds) ≡ ifLt 32767 (s + beforeLast u (u + unitsOf d) ds) true false
-unfolding farFrom beforeLast
-far-before s u d [] = refl
-far-before s u d (e ∷ ds) =
-    let i = far-before s (u + unitsOf d) e ds in
+past-before : (s u : ℕ) (d : Day) (ds : List Day) → pastLastBlockFrom (s + u) (d ∷ ds) ≡ ifLt 32767 (s + beforeLast u (u + unitsOf d) ds) true false
+unfolding pastLastBlockFrom beforeLast
+past-before s u d [] = refl
+past-before s u d (e ∷ ds) =
+    let i = past-before s (u + unitsOf d) e ds in
     let l = before-least (u + unitsOf d) (u + unitsOf d + unitsOf e) ds (omega arith) in
     lt-elim {X = Unit {0}}
-    (λ _. farFrom (s + u) (d ∷ (e ∷ ds)) ≡ ifLt 32767 (s + beforeLast (u + unitsOf d) (u + unitsOf d + unitsOf e) ds) true false)
+    (λ _. pastLastBlockFrom (s + u) (d ∷ (e ∷ ds)) ≡ ifLt 32767 (s + beforeLast (u + unitsOf d) (u + unitsOf d + unitsOf e) ds) true false)
     32767 (s + u) tt tt
     (λ h. is-lt h _ _ ∙ sym (is-lt (omega arith) _ _))
     (λ h. is-ge h _ _ ∙ rw (add-assoc s u (unitsOf d)) i)
 
-far-none : tooFar [] ≡ ifLt 32767 (firstUnit 0 + beforeLast 0 0 []) true false
-unfolding tooFar farFrom beforeLast ifLt
-far-none = refl
+past-none : pastLastBlock [] ≡ ifLt 32767 (firstUnit 0 + beforeLast 0 0 []) true false
+unfolding pastLastBlock pastLastBlockFrom beforeLast ifLt
+past-none = refl
 
 -- 13 by the start of the last block
-pub far-last : (ds : List Day) → tooFar ds ≡ ifLt 32767 (firstUnit (length ds) + beforeLast 0 0 ds) true false
-unfolding tooFar beforeLast
-far-last [] = far-none
-far-last (d ∷ ds) =
+pub past-last : (ds : List Day) → pastLastBlock ds ≡ ifLt 32767 (firstUnit (length ds) + beforeLast 0 0 ds) true false
+unfolding pastLastBlock beforeLast
+past-last [] = past-none
+past-last (d ∷ ds) =
     let u : ℕ = firstUnit (length (d ∷ ds)) in
-    ap (λ (v : ℕ). farFrom v (d ∷ ds)) (sym (add-zero u)) ∙ far-before u 0 d ds
+    ap (λ (v : ℕ). pastLastBlockFrom v (d ∷ ds)) (sym (add-zero u)) ∙ past-before u 0 d ds

@@ -1,19 +1,18 @@
 -- What an accepted book says of each of its records, as the export takes them: start minute and text; and that all their texts are no longer than the book.
 -- Assumes nothing.
 use Prim.Native.Nat.{ℕ, zero, suc, _+_, _≤_}
-use mathlib.Core.Path.{_≡_, refl, ap, _∙_}
+use mathlib.Core.Path.{_≡_}
 use mathlib.Core.Bool.{true}
 use mathlib.Core.Logic.{⊎-elim}
 use mathlib.Core.List.{List, [], _∷_, List·Memᴰ, List·Memᴰ·cases-cons, List·Memᴰ·not-nil}
 use native.Mathlib.Omega.{arith}
 use lib.ListN.{length, take, drop, length-take}
-use lib.Seq.{take-take, drop-drop}
-use Rattle.prelude.specs.Bytes.{part}
+use Rattle.prelude.specs.Bytes.{part, part-part}
 use Rattle.records.specs.Fields.{recordOf, fixedOf, textLength}
 use Rattle.records.specs.Fields as fields
 use Rattle.records.specs.Ranges.{recordOk}
 use Rattle.records.specs.RangeLaws.{Within, facts}
-use Rattle.records.specs.Notes.{noZero}
+use Rattle.notes.specs.Notes.{noZero}
 use Rattle.records.specs.JudgeLaws.{fixed-range, Judged, judged, text-long}
 use Rattle.records.specs.declared.types.Record.{Record}
 use Rattle.book.specs.Walk.{typeAt, lengthAt, bodyAt, nextPlace}
@@ -27,16 +26,6 @@ use Rattle.pages.specs.Pages.{Numbered, numbered, startOf}
 use Rattle.pages.specs.PageLaws.{numberedAt, numbered-first, numbered-end, recordAt, turn}
 use Rattle.export.specs.Export.{textOf}
 use Rattle.prelude.specs.Totals.{total, total-nil, total-cons}
-
--- a part of a part
-drop-take : (i m n : ℕ) (l : List ℕ) → i + m ≤ n → take m (drop i (take n l)) ≡ take m (drop i l)
-drop-take zero m n l h = take-take m n l (omega arith)
-drop-take (suc i) m zero l h = absurd (omega arith)
-drop-take (suc i) m (suc n) [] h = refl
-drop-take (suc i) m (suc n) (x ∷ l) h = drop-take i m n l (omega arith)
-
-part-part : (f : List ℕ) (a n i m : ℕ) → i + m ≤ n → part (part f a n) i m ≡ part f (a + i) m
-part-part f a n i m h = drop-take i m n (drop a f) h ∙ ap (take m) (drop-drop i a f)
 
 -- a record that is in range starts by 23:59
 start-most : (r : Record) → recordOk r ≡ true → timesOf r .start .0 ≤ 1439

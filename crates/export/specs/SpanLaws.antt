@@ -9,34 +9,34 @@ use lib.ListN.{length}
 use Rattle.prelude.specs.Choice.{is-eq, is-ne, eq-elim, lt-skip}
 use Rattle.days.specs.Days.{lastDay}
 use Rattle.calendar.specs.File.{Appointment, Day, appointmentsBytes}
-use Rattle.export.specs.Export.{dayBefore, daysWith, farFrom}
+use Rattle.export.specs.Export.{addDay, daysWith, pastLastBlockFrom}
 use Rattle.export.specs.ListRead.{GoodList}
 use Rattle.export.specs.TableRead.{GoodDays, listOn, on-none}
 
 module _ (d : ℕ) (ds : List Day) where
   -- a day without appointments is left out, another stands in front
-  pub before-none : dayBefore d [] ds ≡ ds
-  unfolding dayBefore
+  pub before-none : addDay d [] ds ≡ ds
+  unfolding addDay
   before-none = refl
 
-  pub before-some : (al : List Appointment) → 0 < length al → dayBefore d al ds ≡ record { day = d; appointments = al } ∷ ds
-  unfolding dayBefore
+  pub before-some : (al : List Appointment) → 0 < length al → addDay d al ds ≡ record { day = d; appointments = al } ∷ ds
+  unfolding addDay
   before-some [] h = absurd (omega arith)
   before-some (a ∷ al) h = refl
 
-  before-few : (al : List Appointment) → length (dayBefore d al ds) ≤ suc (length ds)
-  unfolding dayBefore
+  before-few : (al : List Appointment) → length (addDay d al ds) ≤ suc (length ds)
+  unfolding addDay
   before-few [] = omega arith
   before-few (a ∷ al) = omega arith
 
   -- what they hold on the day itself and on another
-  before-here : (al : List Appointment) → listOn d ds ≡ [] → listOn d (dayBefore d al ds) ≡ al
-  unfolding dayBefore listOn
+  before-here : (al : List Appointment) → listOn d ds ≡ [] → listOn d (addDay d al ds) ≡ al
+  unfolding addDay listOn
   before-here [] h = h
   before-here (a ∷ al) h = is-eq refl _ _
 
-  before-other : (x : ℕ) (al : List Appointment) → (d ≡ x → ⊥) → listOn x (dayBefore d al ds) ≡ listOn x ds
-  unfolding dayBefore listOn
+  before-other : (x : ℕ) (al : List Appointment) → (d ≡ x → ⊥) → listOn x (addDay d al ds) ≡ listOn x ds
+  unfolding addDay listOn
   before-other x [] n = refl
   before-other x (a ∷ al) n = is-ne n _ _
 
@@ -46,12 +46,12 @@ pub record GoodSize (al : List Appointment) : Type 0 where
   pub size : length (appointmentsBytes al) < 65536
 
 before-good :
-    (d low u : ℕ) (al : List Appointment) (ds : List Day) → GoodSize al → d ≤ lastDay → low ≤ d → farFrom u (dayBefore d al ds) ≡ false
-    → ((l v : ℕ) → l ≤ suc d → farFrom v ds ≡ false → GoodDays l v ds) → GoodDays low u (dayBefore d al ds)
-unfolding dayBefore farFrom
-before-good d low u [] ds g k l far next = next low u (omega arith) far
-before-good d low u (a ∷ al) ds g k l far next =
-    let e = lt-skip 32767 u _ _ true≢false far in
+    (d low u : ℕ) (al : List Appointment) (ds : List Day) → GoodSize al → d ≤ lastDay → low ≤ d → pastLastBlockFrom u (addDay d al ds) ≡ false
+    → ((l v : ℕ) → l ≤ suc d → pastLastBlockFrom v ds ≡ false → GoodDays l v ds) → GoodDays low u (addDay d al ds)
+unfolding addDay pastLastBlockFrom
+before-good d low u [] ds g k l past next = next low u (omega arith) past
+before-good d low u (a ∷ al) ds g k l past next =
+    let e = lt-skip 32767 u _ _ true≢false past in
     (record { known = k; size = g .size; list = g .list }, l, e .0, next (d + 1) _ (omega arith) (e .1))
 
 module _ (list : ℕ → List Appointment) where
@@ -60,7 +60,7 @@ module _ (list : ℕ → List Appointment) where
   unfolding daysWith
   days-none d = refl
 
-  pub days-next : (k d : ℕ) → daysWith list (suc k) d ≡ dayBefore d (list d) (daysWith list k (suc d))
+  pub days-next : (k d : ℕ) → daysWith list (suc k) d ≡ addDay d (list d) (daysWith list k (suc d))
   unfolding daysWith
   days-next k d = refl
 
@@ -83,13 +83,13 @@ module _ (list : ℕ → List Appointment) where
   days-on zero d x l h = absurd (omega arith)
   days-on (suc k) d x l h =
       let ds : List Day = daysWith list k (suc d) in
-      eq-elim {X = Unit {0}} (λ _. listOn x (dayBefore d (list d) ds) ≡ list x) d x tt tt
+      eq-elim {X = Unit {0}} (λ _. listOn x (addDay d (list d) ds) ≡ list x) d x tt tt
       (λ e. rw (← e) (before-here d ds (list d) (days-other k (suc d) d (λ m i. omega arith))))
       (λ n. before-other d ds x (list d) n ∙ days-on k (suc d) x (omega arith) (omega arith))
 
-  pub days-good : ((x : ℕ) → GoodSize (list x)) → (k d low u : ℕ) → low ≤ d → d + k ≤ lastDay + 1 → farFrom u (daysWith list k d) ≡ false → GoodDays low u (daysWith list k d)
+  pub days-good : ((x : ℕ) → GoodSize (list x)) → (k d low u : ℕ) → low ≤ d → d + k ≤ lastDay + 1 → pastLastBlockFrom u (daysWith list k d) ≡ false → GoodDays low u (daysWith list k d)
   unfolding daysWith
-  days-good g zero d low u l h far = tt
-  days-good g (suc k) d low u l h far =
-      before-good d low u (list d) (daysWith list k (suc d)) (g d) (omega arith) l far
+  days-good g zero d low u l h past = tt
+  days-good g (suc k) d low u l h past =
+      before-good d low u (list d) (daysWith list k (suc d)) (g d) (omega arith) l past
       (λ l₂ v m f. days-good g k (suc d) l₂ v m (omega arith) f)

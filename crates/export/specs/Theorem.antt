@@ -12,19 +12,19 @@ use Rattle.book.specs.Settings.{settingsOf}
 use Rattle.book.specs.declared.types.Book.{Book}
 use Rattle.book.specs.declared.types.BookAnswer.{BookAnswer}
 use Rattle.falls.specs.declared.types.ShortMonth.{ShortMonth}
-use Rattle.pages.specs.Pages.{Numbered, hours, startOf, pageOf, pageOn}
+use Rattle.pages.specs.Pages.{Numbered, recordTimes, startOf, pageOf, pageOn}
 use Rattle.calendar.specs.File.{Appointment, Day, firstUnit}
 use Rattle.calendar.specs.Shown.{appointmentsOn}
 use Rattle.calendar.specs.declared.types.CalendarAnswer.{CalendarAnswer}
 use Rattle.calendar.specs.declared.types.CalendarSettings.{CalendarSettings}
-use Rattle.export.specs.Export.{intervalOf, settingsFor, appointmentOf, appointmentsFor, daysWith, exportDays, exportFile, tooFar, exportAnswer, exportLeaves, showsUnder}
+use Rattle.export.specs.Export.{intervalOf, settingsFor, appointmentOf, appointmentsFor, daysWith, exportDays, exportFile, pastLastBlock, exportAnswer, exportLeaves, showsUnder}
 use Rattle.export.specs.Demand.{listed, shown, SameDays, Demand3}
 use Rattle.export.specs.TableRead.{GoodDays}
 use Rattle.export.specs.FileRead.{file-counted, file-accepted, file-shows}
 use Rattle.export.specs.RecordLaws.{good-book}
 use Rattle.export.specs.SpanLaws.{days-few, days-on, days-other, days-good}
 use Rattle.export.specs.AppointmentLaws.{flag-alarm, good-size}
-use Rattle.export.specs.AnswerLaws.{Span, sized-far, sized-short, sized-fits, answer-sized, Success, success, left-file}
+use Rattle.export.specs.AnswerLaws.{Span, span-past, span-short, span-fits, answer-span, Success, success, left-file}
 use Rattle.export.specs.declared.types.ExportAnswer.{ExportAnswer}
 
 module _ (shows : ℕ → Numbered → Bool) (f : List ℕ) (first count : ℕ) where
@@ -34,7 +34,7 @@ module _ (shows : ℕ → Numbered → Bool) (f : List ℕ) (first count : ℕ) 
   -- an appointment says of a record what its page says
   said : (interval : ℕ) (x : Numbered) → shown (appointmentOf f interval x) ≡ listed f x
   unfolding appointmentOf
-  said interval x = rw (flag-alarm (hours x .alarm) interval (startOf x))
+  said interval x = rw (flag-alarm (recordTimes x .alarm) interval (startOf x))
 
   all-said : (interval : ℕ) (xs : List Numbered) → map shown (map (appointmentOf f interval) xs) ≡ map (listed f) xs
   all-said interval [] = refl
@@ -45,13 +45,13 @@ module _ (shows : ℕ → Numbered → Bool) (f : List ℕ) (first count : ℕ) 
   page-said d = all-said _ (pageOf (shows d) f)
 
   -- the file, written or not
-  pub same-days : {b : Book} → bookOf f ≡ BookAnswer.Accepted b → Span first count → tooFar (exportDays shows f first count) ≡ false → SameDays shows f first count (exportFile shows f first count)
-  unfolding tooFar exportDays exportFile
-  same-days {b} e span far =
+  pub same-days : {b : Book} → bookOf f ≡ BookAnswer.Accepted b → Span first count → pastLastBlock (exportDays shows f first count) ≡ false → SameDays shows f first count (exportFile shows f first count)
+  unfolding pastLastBlock exportDays exportFile
+  same-days {b} e span past =
       let s : CalendarSettings = settingsFor (settingsOf f) in
       let ds : List Day = daysWith list count first in
       let few : length ds < 65536 = omega (arith, days-few list count first) in
-      let good : GoodDays 0 (firstUnit (length ds)) ds = days-good list (good-size f (intervalOf (settingsOf f .granularity)) (good-book f e) shows) count first 0 (firstUnit (length ds)) (omega arith) (span .end) far in
+      let good : GoodDays 0 (firstUnit (length ds)) ds = days-good list (good-size f (intervalOf (settingsOf f .granularity)) (good-book f e) shows) count first 0 (firstUnit (length ds)) (omega arith) (span .end) past in
       record {
         accepted = file-accepted s ds few good ∙ ap CalendarAnswer.Accepted (sym (file-counted s ds few));
         inside = λ d l h. ap (map shown) (file-shows s ds few good d ∙ days-on list count first d l h) ∙ page-said d;
@@ -65,8 +65,8 @@ module _ (shows : ℕ → Numbered → Bool) (f : List ℕ) (first count : ℕ) 
       record {
         sizes =
             λ b e span.
-            let q = answer-sized shows f first count (length out) e span in
-            record { thirteen = λ h. q ∙ sized-far _ _ h; twelve = λ h l. q ∙ sized-short h l; written = λ h l. q ∙ sized-fits h l };
+            let q = answer-span shows f first count (length out) e span in
+            record { thirteen = λ h. q ∙ span-past shows f first count _ h; twelve = λ h l. q ∙ span-short shows f first count h l; written = λ h l. q ∙ span-fits shows f first count h l };
         same =
             λ n h.
             let s : Success shows f first count (length out) n = success shows f first count (length out) n h in

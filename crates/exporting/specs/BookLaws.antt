@@ -1,13 +1,14 @@
 -- The records of an accepted book on the days of a span: what the passes keep and weigh is what the export shows.
 -- Assumes nothing.
-use Prim.Native.Nat.{ℕ, _+_, _*_, _/_, _%_, _<_, _≤_}
+use Prim.Native.Nat.{ℕ, zero, suc, _+_, _*_, _/_, _%_, _<_, _≤_}
 use mathlib.Core.Path.{_≡_, refl, sym, ap, _∙_}
 use mathlib.Core.Bool.{Bool, true, false, true≢false}
 use mathlib.Core.List.{List, [], _∷_, List·Memᴰ, List·Memᴰ·head, List·Memᴰ·tail}
 use native.Mathlib.Omega.{arith}
 use lib.ListN.{length, getD, drop, length-drop}
 use lib.Seq.{length-take-le}
-use Rattle.prelude.specs.Choice.{tested}
+use Rattle.prelude.specs.Bytes.{bit-most, bit}
+use Rattle.prelude.specs.Choice.{is-true, is-false, tested, lt-elim}
 use Rattle.prelude.specs.Keep.{keep, keep-nil, keep-yes, keep-no, keep-member}
 use Rattle.prelude.specs.Order.{sort, keep-sort}
 use Rattle.records.specs.JudgeLaws.{Judged, judged}
@@ -16,18 +17,32 @@ use Rattle.book.specs.Books.{entryAt, placesOf}
 use Rattle.book.specs.WalkLaws.{RecordAt}
 use Rattle.book.specs.EntryLaws.{Inside, entry-inside, record-there}
 use Rattle.falls.specs.declared.types.ShortMonth.{ShortMonth}
-use Rattle.pages.specs.Pages.{Numbered, numbered, hours, startOf, pageOf}
+use Rattle.pages.specs.Pages.{Numbered, numbered, recordTimes, startOf, pageOf}
 use Rattle.pages.specs.DecodeLaws.{Placed, placed}
-use Rattle.export.specs.Export.{bit, textOf, appointmentsFor, showsUnder}
+use Rattle.export.specs.Export.{textOf, appointmentsFor, showsUnder}
 use Rattle.prelude.specs.Totals.{total, total-keep}
 use Rattle.export.specs.RecordLaws.{sizeOf, GoodBook}
-use Rattle.export.specs.AppointmentLaws.{bit-most, length-for, bytes-for, alarms-for}
+use Rattle.export.specs.AppointmentLaws.{length-for, bytes-for, alarms-for}
 use Rattle.spans.specs.Codes.{Spanned}
 use Rattle.spans.specs.CodeLaws.{facts-known}
 use Rattle.spans.specs.RuleLaws.{rule-falls}
-use Rattle.exporting.specs.Sums.{Sum}
-use Rattle.exporting.specs.ScatterLaws.{some-yes}
-use Rattle.exporting.specs.Passes.{Counted, Sound, marked, keptIn, weighs, Weighed}
+use Rattle.pieces.specs.Sums.{Sum}
+use Rattle.exporting.specs.Passes.{someDay, Counted, Sound, marked, keptIn, weighs, Weighed}
+
+-- some day of a span passes, or none
+module _ (p : ℕ → Bool) where
+  pub some-yes : (n k : ℕ) → k < n → p k ≡ true → someDay p n ≡ true
+  unfolding someDay
+  some-yes zero k h e = absurd (omega arith)
+  some-yes (suc n) k h e =
+      tested (p n) (λ t. is-true t _ _)
+      (λ t. is-false t _ _ ∙ lt-elim {X = Unit {0}} (λ _. someDay p n ≡ true) k n tt tt (λ l. some-yes n k l e)
+      (λ l. let z : k ≡ n = omega arith in absurd (true≢false (sym (rw z at e) ∙ t))))
+
+  pub some-no : (n : ℕ) → ((k : ℕ) → k < n → p k ≡ false) → someDay p n ≡ false
+  unfolding someDay
+  some-no zero h = refl
+  some-no (suc n) h = is-false (h n (omega arith)) _ _ ∙ some-no n (λ k l. h k (omega arith))
 
 -- a record that the walk judged fine
 pub sound-at : (f : List ℕ) (at : ℕ) → length f ≤ 65535 → RecordAt f at → Sound f at
@@ -91,15 +106,15 @@ kept-page f c days k l =
     ∙ ap (sort startOf) (keep-keep (marked c days k) (keptIn c days) (numbered f) (λ x h. some-yes (λ j. marked c days j x) (length days) k l h))
 
 -- what a sum of weights holds
-weights : (f : List ℕ) (xs : List Numbered) → total (λ x. 4294967296 + bit (hours x .alarm) * 65536 + sizeOf f x) xs ≡ length xs * 4294967296 + total (λ x. bit (hours x .alarm)) xs * 65536 + total (sizeOf f) xs
+weights : (f : List ℕ) (xs : List Numbered) → total (λ x. 4294967296 + bit (recordTimes x .alarm) * 65536 + sizeOf f x) xs ≡ length xs * 4294967296 + total (λ x. bit (recordTimes x .alarm)) xs * 65536 + total (sizeOf f) xs
 unfolding total
 weights f [] = refl
 weights f (x ∷ xs) = omega (arith, weights f xs)
 
-few-alarms : (f : List ℕ) (xs : List Numbered) → total (λ x. bit (hours x .alarm)) xs ≤ total (sizeOf f) xs
+few-alarms : (f : List ℕ) (xs : List Numbered) → total (λ x. bit (recordTimes x .alarm)) xs ≤ total (sizeOf f) xs
 unfolding total
 few-alarms f [] = omega arith
-few-alarms f (x ∷ xs) = omega (arith, few-alarms f xs, bit-most (hours x .alarm))
+few-alarms f (x ∷ xs) = omega (arith, few-alarms f xs, bit-most (recordTimes x .alarm))
 
 parts-of : (s n a b : ℕ) → s ≡ n * 4294967296 + a * 65536 + b → a ≤ b → b ≤ 65535 → (s / 4294967296 ≡ n) × (s / 65536 % 65536 ≡ a) × (s % 65536 ≡ b)
 parts-of s n a b e l h = (omega arith, omega arith, omega arith)
@@ -117,12 +132,12 @@ module _ {f : List ℕ} {n : ℕ} (b : Counted f n) (good : GoodBook f) {first :
   weighed-sum interval {sums} w k l =
       let d = first + k in
       let xs = keep (showsUnder c d) (numbered f) in
-      let same : (x : Numbered) → List·Memᴰ x xs → weighs x ≡ 4294967296 + bit (hours x .alarm) * 65536 + sizeOf f x =
+      let same : (x : Numbered) → List·Memᴰ x xs → weighs x ≡ 4294967296 + bit (recordTimes x .alarm) * 65536 + sizeOf f x =
       λ x m. rw (text-long b (whole b (keep-member (showsUnder c d) m .0))) in
-      let e : getD sums k 0 ≡ length xs * 4294967296 + total (λ x. bit (hours x .alarm)) xs * 65536 + total (sizeOf f) xs =
+      let e : getD sums k 0 ≡ length xs * 4294967296 + total (λ x. bit (recordTimes x .alarm)) xs * 65536 + total (sizeOf f) xs =
       w .each k l ∙ ap (total weighs) (same-kept k l) ∙ total-same weighs _ xs same ∙ weights f xs in
       let most : total (sizeOf f) xs ≤ 65535 = omega (arith, total-keep (sizeOf f) (showsUnder c d) (numbered f), good .sum) in
-      let p = parts-of (getD sums k 0) (length xs) (total (λ x. bit (hours x .alarm)) xs) (total (sizeOf f) xs) e (few-alarms f xs) most in
+      let p = parts-of (getD sums k 0) (length xs) (total (λ x. bit (recordTimes x .alarm)) xs) (total (sizeOf f) xs) e (few-alarms f xs) most in
       record {
         count = p .0 ∙ sym (length-for (showsUnder c) f interval d);
         alarm = p .1 ∙ sym (alarms-for (showsUnder c) f interval d);

@@ -8,25 +8,25 @@ use native.Mathlib.Omega.{arith}
 use native.Mathlib.Nat.{zero-add, add-zero}
 use native.Mathlib.Numerals.{add-one}
 use lib.ListN.{length, getD, take, set}
+use Rattle.prelude.specs.Bytes.{bit-most}
 use Rattle.prelude.specs.Choice.{ifB, is-true, is-false, tested, b-elim}
 use Rattle.prelude.specs.Keep.{keep}
 use Rattle.book.specs.Walk.{nextPlace}
 use Rattle.book.specs.Books.{entryAt}
 use Rattle.book.specs.BookLaws.{Cursor, cursor-first, Ahead, cursor-ahead}
 use Rattle.falls.specs.declared.types.ShortMonth.{ShortMonth}
-use Rattle.pages.specs.Pages.{Numbered, numbered, hours}
+use Rattle.pages.specs.Pages.{Numbered, numbered, recordTimes}
 use Rattle.pages.specs.Codes.{code}
 use Rattle.pages.specs.CodeLaws.{push, none-left}
 use Rattle.pages.specs.PageLaws.{numberedAt, numbered-first, recordAt, Turn, turn, turn-yes, turn-no, turn-end}
 use Rattle.prelude.specs.Totals.{total, total-nil, total-cons}
-use Rattle.export.specs.AppointmentLaws.{bit-most}
+use Rattle.export.specs.AppointmentLaws.{}
 use Rattle.spans.specs.Rules.{ruleOf, ruleShows}
 use Rattle.spans.specs.Next.{Next}
 use Rattle.spans.specs.declared.types.Rule.{Rule}
-use Rattle.exporting.specs.Scatter.{Below, Added}
-use Rattle.exporting.specs.ScatterLaws.{some-yes, some-no}
-use Rattle.exporting.specs.Passes.{Counted, Sound, marked, keptIn, weighs, Weighed}
-use Rattle.exporting.specs.BookLaws.{sound-at}
+use Rattle.pieces.specs.Scatter.{Added}
+use Rattle.exporting.specs.Passes.{Below, Counted, Sound, marked, keptIn, weighs, Weighed}
+use Rattle.exporting.specs.BookLaws.{some-yes, some-no, sound-at}
 
 -- the pass before record n, which stands at a place
 pub record Collecting (f : List ℕ) (c : ShortMonth) (days : List ℕ) (n at count : ℕ) (codes sums : List ℕ) : Type 0 where
@@ -56,7 +56,7 @@ if-most t w = b-elim (λ z. z ≤ w) t w 0 (λ _. omega arith) (λ _. omega arit
 
 -- a record's weight
 weigh-most : (f : List ℕ) (n at : ℕ) → Sound f at → weighs (recordAt f n at) ≤ 8589934592
-weigh-most f n at s = omega (arith, bit-most (hours (recordAt f n at) .alarm), s .short)
+weigh-most f n at s = omega (arith, bit-most (recordTimes (recordAt f n at) .alarm), s .short)
 
 module _ {f : List ℕ} {c : ShortMonth} {days : List ℕ} {n at count : ℕ} {codes sums : List ℕ} (g : Collecting f c days n at count codes sums) where
   module _ {records : ℕ} (b : Counted f records) (inside : n < records) where

@@ -7,6 +7,7 @@ use mathlib.Core.List.{List, map}
 use native.Mathlib.Omega.{arith}
 use lib.ListN.{length, take, length-replicate, getD-replicate}
 use lib.Seq.{length-take-le, getD-take}
+use Rattle.spans.specs.MoveLaws.{day-at}
 use Rattle.prelude.specs.Choice.{is-ge, eq-elim}
 use Rattle.prelude.specs.Keep.{keep}
 use Rattle.prelude.specs.Order.{sort}
@@ -27,19 +28,17 @@ use Rattle.falls.specs.declared.types.ShortMonth.{ShortMonth}
 use Rattle.pages.specs.Pages.{Numbered, numbered}
 use Rattle.order.specs.Codes.{high}
 use Rattle.pages.specs.Codes.{code}
-use Rattle.pages.specs.PageLaws.{day-facts}
 use Rattle.calendar.specs.File.{zeros, fileOf}
 use Rattle.calendar.specs.declared.types.CalendarSettings.{CalendarSettings}
-use Rattle.export.specs.Export.{intervalOf, settingsFor, appointmentsFor, daysWith, exportDays, exportFile, tooFar, exportFrom, exportAnswer, leaves, exportLeaves, showsUnder}
+use Rattle.export.specs.Export.{intervalOf, settingsFor, appointmentsFor, daysWith, exportDays, exportFile, pastLastBlock, sized, spanAnswer, exportFrom, exportAnswer, leaves, spanLeaves, exportLeaves, showsUnder}
 use Rattle.export.specs.RecordLaws.{good-book}
 use Rattle.export.specs.declared.types.ExportAnswer.{ExportAnswer}
 use Rattle.spans.specs.Codes.{Spanned}
-use Rattle.exporting.specs.Sums.{measureOf, sumUp}
-use Rattle.exporting.specs.Scatter.{Below}
-use Rattle.exporting.specs.Passes.{keptIn, Weighed}
-use Rattle.exporting.specs.SumLaws.{measure-sums}
+use Rattle.pieces.specs.Sums.{measureOf, sumUp}
+use Rattle.exporting.specs.Passes.{Below, keptIn, Weighed}
+use Rattle.pieces.specs.SumLaws.{measure-sums}
 use Rattle.exporting.specs.ReadyLaws.{Ready, Gathered, ordered, ready-sums}
-use Rattle.exporting.specs.declared.types.Measure.{Measure}
+use Rattle.pieces.specs.declared.types.Measure.{Measure}
 
 interval-some : (g : ℕ) → 0 < intervalOf g
 unfolding intervalOf
@@ -89,13 +88,13 @@ module _ {f : List ℕ} {c : ShortMonth} {first : ℕ} {days sums codes : List �
   pub record Measures (m : Measure) : Type 0 where
     pub length-is : m .length ≡ length (exportFile (showsUnder c) f first (length days))
     pub few : m .descriptors ≡ length (exportDays (showsUnder c) f first (length days))
-    pub far-is : m .far ≡ tooFar (exportDays (showsUnder c) f first (length days))
+    pub past-is : m .«past_last_block» ≡ pastLastBlock (exportDays (showsUnder c) f first (length days))
 
   pub gathered-measures : {m : Measure} → m ≡ sumUp 0 0 0 0 sums → Measures m
   unfolding exportFile
   gathered-measures e =
       let q = e ∙ gathered-measure in
-      record { length-is = ap (λ (x : Measure). x .length) q; few = ap (λ (x : Measure). x .descriptors) q; far-is = ap (λ (x : Measure). x .far) q }
+      record { length-is = ap (λ (x : Measure). x .length) q; few = ap (λ (x : Measure). x .descriptors) q; past-is = ap (λ (x : Measure). x .«past_last_block») q }
 
 -- the front of a list of zeros
 pub front-long : (m n : ℕ) → n ≤ m → length (take n (zeros m)) ≡ n
@@ -124,12 +123,26 @@ pub record First (first : ℕ) (g : DayFacts) : Type 0 where
 pub first-facts : (first : ℕ) {g : DayFacts} → factsAnswer (record { 0 = first }) ≡ FactsAnswer.Facts g → First first g
 first-facts first {g} e =
     let q : factsOf first ≡ g = facts-given e .1 in
-    let d : g .day .0 ≡ first = ap (λ (x : DayFacts). x .day .0) (sym q) ∙ day-facts first in
+    let d : g .day .0 ≡ first = ap (λ (x : DayFacts). x .day .0) (sym q) ∙ day-at first in
     record { day = d; facts = sym q ∙ ap factsOf (sym d) }
 
 pub first-not : (first : ℕ) {r : Refusal} → first ≤ lastDay → factsAnswer (record { 0 = first }) ≡ FactsAnswer.Refused r → ⊥
 unfolding factsAnswer
 first-not first h e = let q = sym (is-ge h _ _) ∙ e in let z : _≡_ {A = ℕ} 0 1 = cc in omega arith
+
+-- a span's answer and buffer, by the measure
+module _ (shows : ℕ → Numbered → Bool) (f : List ℕ) (first count : ℕ) where
+  pub span-is : (room : ℕ) {size : ℕ} {past : Bool} {r : ExportAnswer} → past ≡ pastLastBlock (exportDays shows f first count) → size ≡ length (exportFile shows f first count) → r ≡ sized room past size → r ≡ spanAnswer shows f first count room
+  unfolding spanAnswer
+  span-is room p s e = e ∙ rw (p, s)
+
+  pub span-left : (out : List ℕ) {left : List ℕ} {r : ExportAnswer} → r ≡ spanAnswer shows f first count (length out) → left ≡ leaves (exportFile shows f first count) out r → left ≡ spanLeaves shows f first count out
+  unfolding spanLeaves
+  span-left out e l = l ∙ ap (leaves (exportFile shows f first count) out) e
+
+  pub left-span : (out : List ℕ) {left : List ℕ} {r : ExportAnswer} → r ≡ spanAnswer shows f first count (length out) → left ≡ spanLeaves shows f first count out → left ≡ leaves (exportFile shows f first count) out r
+  unfolding spanLeaves
+  left-span out e l = l ∙ ap (leaves (exportFile shows f first count) out) (sym e)
 
 -- the answer and the buffer, once the book's own answer is known
 module _ (shows : ℕ → Numbered → Bool) (f : List ℕ) (first count : ℕ) (out : List ℕ) where

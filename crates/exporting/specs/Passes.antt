@@ -1,21 +1,31 @@
 -- What the passes over a book know of a record: on which days of a span it shows, its weight, and a day's appointments so far.
 -- Assumes nothing.
-use Prim.Native.Nat.{ℕ, _+_, _*_, _<_, _≤_}
+use Prim.Native.Nat.{ℕ, zero, suc, _+_, _*_, _<_, _≤_}
 use mathlib.Core.Path.{_≡_}
-use mathlib.Core.Bool.{Bool, true}
+use mathlib.Core.Bool.{Bool, true, false}
 use mathlib.Core.List.{List, map}
 use lib.ListN.{length, getD, take}
+use Rattle.prelude.specs.Bytes.{bit}
+use Rattle.prelude.specs.Choice.{ifB}
 use Rattle.prelude.specs.Keep.{keep}
 use Rattle.records.specs.Ranges.{recordOk}
 use Rattle.book.specs.Books.{placesOf, entryAt}
 use Rattle.falls.specs.declared.types.ShortMonth.{ShortMonth}
-use Rattle.pages.specs.Pages.{Numbered, numbered, hours}
+use Rattle.pages.specs.Pages.{Numbered, numbered, recordTimes}
 use Rattle.pages.specs.Codes.{decode}
 use Rattle.calendar.specs.File.{Appointment}
-use Rattle.export.specs.Export.{bit, appointmentOf}
+use Rattle.export.specs.Export.{appointmentOf}
 use Rattle.prelude.specs.Totals.{total}
 use Rattle.spans.specs.Rules.{ruleOf, ruleShows}
-use Rattle.exporting.specs.Scatter.{someDay}
+
+-- no number of a list is above n
+pub record Below (n : ℕ) (xs : List ℕ) : Type 0 where
+  pub each : (k : ℕ) → k < length xs → getD xs k 0 ≤ n
+
+-- whether one of the first n days passes
+unfoldable pub someDay : (ℕ → Bool) → ℕ → Bool
+someDay p zero = false
+someDay p (suc n) = ifB (p n) true (someDay p n)
 
 -- an accepted book with its number of records
 pub record Counted (f : List ℕ) (records : ℕ) : Type 0 where
@@ -40,7 +50,7 @@ keptIn c days x = someDay (λ k. marked c days k x) (length days)
 
 -- one appointment, its alarm, its bytes, as a sum
 abbrev pub weighs : Numbered → ℕ
-weighs x = 4294967296 + bit (hours x .alarm) * 65536 + (5 + x .entry .text .length)
+weighs x = 4294967296 + bit (recordTimes x .alarm) * 65536 + (5 + x .entry .text .length)
 
 -- the sums of a span's days
 pub record Weighed (f : List ℕ) (c : ShortMonth) (days sums : List ℕ) : Type 0 where

@@ -25,15 +25,15 @@ use Rattle.export.specs.RecordLaws.{GoodBook}
 use Rattle.calendar.specs.FileLaws.{length-appointment, length-table}
 use Rattle.export.specs.SpanLaws.{days-few}
 use Rattle.spans.specs.Codes.{Spanned, Days}
-use Rattle.exporting.specs.Sums.{Sums, sumTable, rows, unitsTo, noneYet}
-use Rattle.exporting.specs.Scatter.{Added, Roomy, scatter}
+use Rattle.pieces.specs.Sums.{Sums, sumTable, rows, unitsTo, noneYet}
+use Rattle.pieces.specs.Scatter.{Added, Roomy, scatter}
 use Rattle.exporting.specs.Passes.{Counted, Sound, marked, keptIn, Weighed, soFar}
-use Rattle.exporting.specs.RowLaws.{length-more, Fits, length-rows, fits-none}
-use Rattle.exporting.specs.FillLaws.{Filled, fill-one, filled-long, fill-room, filled-same}
+use Rattle.pieces.specs.RowLaws.{length-more, Fits, length-rows, fits-none}
+use Rattle.pieces.specs.FillLaws.{Filled, fill-one, filled-long, fill-room, filled-same}
 use Rattle.exporting.specs.BookLaws.{Whole, whole, weighed-sum}
 use Rattle.exporting.specs.StepLaws.{so-none, so-more, so-all, so-fits}
-use Rattle.exporting.specs.SumLaws.{sums-at, table-sums, rows-sums}
-use Rattle.exporting.specs.Pieces.{file-pieces}
+use Rattle.pieces.specs.SumLaws.{sums-at, table-sums, rows-sums}
+use Rattle.pieces.specs.Pieces.{file-pieces}
 
 pub record Ready (f : List ℕ) (c : ShortMonth) (first : ℕ) (days sums codes : List ℕ) : Type 0 where
   pub records : ℕ

@@ -19,9 +19,9 @@ use Rattle.calendar.specs.File.{Appointment, appointmentsBytes}
 use Rattle.export.specs.Export.{appointmentOf, appointmentsFor, showsUnder}
 use Rattle.export.specs.RecordLaws.{GoodBook}
 use Rattle.spans.specs.Codes.{Spanned}
-use Rattle.exporting.specs.Sums.{Sum}
+use Rattle.pieces.specs.Sums.{Sum}
 use Rattle.exporting.specs.Passes.{Counted, marked, keptIn, Weighed, soFar}
-use Rattle.exporting.specs.RowLaws.{bytes-append, Fits}
+use Rattle.pieces.specs.RowLaws.{bytes-append, Fits}
 use Rattle.exporting.specs.BookLaws.{kept-page, same-page, weighed-sum}
 
 module _ (f : List ℕ) (interval : ℕ) (c : ShortMonth) (days codes : List ℕ) where

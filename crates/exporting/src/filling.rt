@@ -1,87 +1,25 @@
-// Filling the blocks of a span: first each block with its appointments left zero, then record by record each appointment on its days.
+// Filling the blocks of a span: first each with its appointments left zero, then record by record each appointment on its days.
 ghost use mathlib.Core.Path.{_≡_};
 ghost use Prim.Native.Nat.{_+_, _%_, _<_, _≤_};
-ghost use lib.ListN.{length, getD};
+ghost use lib.ListN.{length};
+ghost use Rattle.prelude.specs.Bytes.{bit};
 ghost use Rattle.prelude.specs.Splice.{splice};
 ghost use Rattle.pages.specs.Codes.{decode};
 ghost use Rattle.calendar.specs.File.{appointmentBytes};
-ghost use Rattle.export.specs.Export.{bit, specialTime, appointmentOf};
+ghost use Rattle.export.specs.Export.{specialTime, appointmentOf};
 ghost use Rattle.spans.specs.Codes.{Days};
-ghost use Rattle.spans.specs.Rules.{ruleShows};
-ghost use Rattle.exporting.specs.Sums.{rows, noneYet};
-ghost use Rattle.exporting.specs.Scatter.{Added, Roomy, scatter};
+ghost use Rattle.pieces.specs.Sums.{rows};
+ghost use Rattle.pieces.specs.Scatter.{Added, Roomy, scatter};
 ghost use Rattle.exporting.specs.Passes.{Sound, marked, soFar};
-ghost use Rattle.exporting.specs.FillLaws.{Filled};
 ghost use Rattle.exporting.specs.ReadyLaws.{Ready};
 use crate::collecting::rule_at;
-use crate::puts::put_appointment;
-use crate::puts::put_blank;
 use falls::types::ShortMonth;
 use pages::ordering::line_of;
-use prelude::slices::copy_in;
+use pieces::placing::put_blanks;
+use pieces::placing::put_hits;
+use pieces::puts::put_appointment;
+use prelude::numbers::bit_of;
 use prelude::slices::part;
-use spans::hits::next_after;
-use spans::hits::next_from;
-use spans::types::Rule;
-
-// The blocks of the days from the first on, and the place of each day's first appointment.
-pub fn put_blanks(
-    out: &mut [u8],
-    at: usize,
-    first: usize,
-    sums: &[u64],
-    places: &mut [usize],
-) -> usize
-    requires { ⌜ first + length (now sums) ≤ 43830 ⌝ }
-    requires { ⌜ length (now places) ≡ length (now sums) ⌝ }
-    requires { ⌜ at + length (rows noneYet first 0 (now sums)) ≤ length (now out) ⌝ }
-    ensures next { λ r. ⌜ r ≡ at + length (rows noneYet first 0 (now (sums .entry))) ⌝ }
-    ensures put { λ _. ⌜ Filled (now (out .entry)) at first (now (sums .entry)) noneYet (now (places .exit)) (now (out .exit)) ⌝ }
-{
-    let mut pos = at;
-    let mut k: usize = 0;
-    while k < sums.len() {
-        let sum = sums[k];
-        places[k] = pos + 10;
-        pos = put_blank(out, pos, first + k, sum);
-        k += 1;
-    }
-    pos
-}
-
-// Puts a piece at the place of each day on which a rule shows, and moves these places behind it.
-fn put_hits(
-    c: ShortMonth,
-    r: Rule,
-    days: &[u32],
-    piece: &[u8],
-    places: &mut [usize],
-    out: &mut [u8],
-)
-    requires { ⌜ Days (now days) ⌝ }
-    requires { ⌜ length (now places) ≡ length (now days) ⌝ }
-    requires { ⌜ Roomy (λ k. ruleShows c r (getD (now days) k 0)) (length (now days)) (length (now piece)) (now places) (length (now out)) ⌝ }
-    ensures { λ _.
-        ⌜ Added (λ k. ruleShows c r (getD (now (days .entry)) k 0)) (length (now (piece .entry))) (length (now (days .entry))) (now (places .entry)) (now (places .exit)) ⌝ }
-    ensures { λ _.
-        ⌜ now (out .exit) ≡ scatter (length (now (days .entry))) (λ k. ruleShows c r (getD (now (days .entry)) k 0)) (now (piece .entry)) (now (places .entry)) 0 (now (out .entry)) ⌝ }
-{
-    let mut j = next_from(c, r, days, 0);
-    while j < days.len() {
-        let at = places[j];
-        places[j] = copy_in(out, at, piece);
-        j = next_after(c, r, days, j);
-    }
-}
-
-fn bit_of(b: bool) -> u8
-    ensures { λ r. ⌜ (r ≡ bit b) × (r ≤ 1) ⌝ }
-{
-    if b {
-        return 1;
-    }
-    0
-}
 
 // Flag 1 by the alarm mark, flag 2 by the interval.
 fn flags_of(alarm: bool, minute: u16, interval: u16) -> u8

@@ -1,9 +1,11 @@
-// What measuring an export gives.
+// What is exported.
+use book::types::Book;
+use days::types::DayFacts;
+use falls::types::ShortMonth;
 
-// The file's length, its descriptors and its appointments, and whether a block would start at block 32,768 or later.
-pub struct Measure {
-    pub length: usize,
-    pub descriptors: usize,
-    pub appointments: usize,
-    pub far: bool,
+// An accepted book, the first day of a span, and the choice for short months.
+pub struct Request {
+    pub book: Book,
+    pub first: DayFacts,
+    pub choice: ShortMonth,
 }

@@ -8,15 +8,15 @@ ghost use Rattle.calendar.specs.File.{fileOf};
 ghost use Rattle.export.specs.Export.{appointmentsFor, daysWith, exportDays, exportFile, showsUnder};
 ghost use Rattle.exporting.specs.ReadyLaws.{Ready, Gathered};
 use crate::filling::put_days;
-use crate::measuring::first_unit;
-use crate::puts::put_head;
-use crate::puts::put_table;
-use crate::puts::put_zeros;
-use crate::settings::settings_for;
-use book::types::Settings;
+use crate::types::Request;
 use calendar::types::CalendarSettings;
 use falls::types::ShortMonth;
 use order::ordering::order_codes;
+use pieces::measuring::first_unit;
+use pieces::puts::put_head;
+use pieces::puts::put_table;
+use pieces::puts::put_zeros;
+use pieces::settings::settings_for;
 
 // The file of n days with appointments.
 fn put_file(
@@ -63,9 +63,7 @@ fn put_file(
 // Orders the collected codes, n of them, and writes the file of that many days with appointments.
 pub fn fill(
     file: &[u8],
-    c: ShortMonth,
-    settings: Settings,
-    first: usize,
+    q: Request,
     days: &[u32],
     sums: &[u64],
     codes: &mut [u64],
@@ -75,19 +73,21 @@ pub fn fill(
     places: &mut [usize],
     out: &mut [u8],
 )
-    requires { ⌜ settings ≡ settingsOf (now file) ⌝ }
-    requires { ⌜ Gathered (now file) c first (now days) (now sums) (take n (now codes)) ⌝ }
+    requires { ⌜ q .book .settings ≡ settingsOf (now file) ⌝ }
+    requires { ⌜ Gathered (now file) (q .choice) (q .first .day .0) (now days) (now sums) (take n (now codes)) ⌝ }
     requires { ⌜ n ≤ length (now codes) ⌝ }
     requires { ⌜ length (now codes) ≤ length (now spare) ⌝ }
     requires { ⌜ length (now days) ≤ 366 ⌝ }
     requires { ⌜ length (now places) ≡ length (now days) ⌝ }
-    requires { ⌜ descriptors ≡ length (exportDays (showsUnder c) (now file) first (length (now days))) ⌝ }
-    requires { ⌜ length (exportFile (showsUnder c) (now file) first (length (now days))) ≤ length (now out) ⌝ }
+    requires { ⌜ descriptors ≡ length (exportDays (showsUnder (q .choice)) (now file) (q .first .day .0) (length (now days))) ⌝ }
+    requires { ⌜ length (exportFile (showsUnder (q .choice)) (now file) (q .first .day .0) (length (now days))) ≤ length (now out) ⌝ }
     ensures { λ _.
-        ⌜ now (out .exit) ≡ splice (now (out .entry)) 0 (exportFile (showsUnder c) (now (file .entry)) first (length (now (days .entry)))) ⌝ }
+        ⌜ now (out .exit) ≡ splice (now (out .entry)) 0 (exportFile (showsUnder (q .choice)) (now (file .entry)) (q .first .day .0) (length (now (days .entry)))) ⌝ }
 {
     order_codes(codes, spare, n);
-    let s = settings_for(settings);
+    let c = q.choice;
+    let s = settings_for(q.book.settings);
+    let first = q.first.day.0 as usize;
     put_file(
         file,
         c,

@@ -1,4 +1,4 @@
--- Laws of the rules and the hours: both over the type number, as a reader of bytes meets it.
+-- Laws of the rules and the times: both over the type number, as a reader of bytes meets it.
 -- Assumes nothing.
 use Prim.Native.Nat.{ℕ}
 use mathlib.Core.Path.{_≡_, refl}

@@ -1,4 +1,4 @@
--- When a record falls on a day: the rules, the hours, and their laws.
+-- When a record falls on a day: the rules, the times, and their laws.
 pub mod Falls
 pub mod Times
 pub mod FallsLaws

@@ -1,8 +1,6 @@
 // The rules of the six kinds, each asked of a record and the facts of a day.
 ghost use mathlib.Core.Path.{_≡_};
 ghost use Prim.Native.Nat.{_+_, _-_, _/_};
-ghost use mathlib.Core.Bool.{true, false};
-ghost use Rattle.prelude.specs.Choice.{ifEq};
 ghost use Rattle.records.specs.Fields.{recordOf};
 ghost use Rattle.prelude.specs.Bytes.{byte as byteOf};
 ghost use Rattle.falls.specs.Agrees.{agrees as agreesOf};
@@ -10,6 +8,7 @@ ghost use Rattle.falls.specs.Falls.{datedFalls, inSpan, weeklyFalls, byP
 use crate::types::ShortMonth;
 use days::dates::before;
 use days::types::DayFacts;
+use prelude::numbers::is_same;
 use prelude::slices::byte;
 use records::fields::dated_of;
 use records::fields::monthly_by_date_of;
@@ -77,15 +76,6 @@ fn by_position_falls(f: DayFacts, m: MonthlyByPosition) -> bool
             return in_span(f, m.repeat);
         }
         return false;
-    }
-    false
-}
-
-fn is_same(a: u16, b: u16) -> bool
-    ensures { λ r. ⌜ r ≡ ifEq a b true false ⌝ }
-{
-    if a == b {
-        return true;
     }
     false
 }

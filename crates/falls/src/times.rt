@@ -1,4 +1,4 @@
-// A record's hours and alarm mark, read from its body.
+// A record's times and alarm mark, read from its body.
 ghost use mathlib.Core.Path.{_≡_};
 ghost use Rattle.records.specs.Fields.{recordOf};
 ghost use Rattle.falls.specs.Times.{datedTimes, repeatTimes, timesOf};
@@ -37,7 +37,7 @@ fn repeat_times(p: Repeat) -> Times
     }
 }
 
-// The hours of the record of a type 1 to 6 with that body.
+// The times of the record of a type 1 to 6 with that body.
 pub fn times_of(t: u8, p: &[u8]) -> Times
     ensures { λ r. ⌜ r ≡ timesOf (recordOf t (now (p .entry))) ⌝ }
 {

@@ -7,7 +7,7 @@ pub enum ShortMonth {
     Last,
 }
 
-// A record's hours and its alarm mark.
+// A record's times and its alarm mark.
 pub struct Times {
     pub start: Minute,
     pub end: Minute,

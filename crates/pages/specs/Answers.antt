@@ -4,7 +4,7 @@ use Prim.Native.Nat.{ℕ}
 use mathlib.Core.List.{List, []}
 use lib.ListN.{length}
 use Rattle.prelude.specs.Choice.{ifLt}
-use Rattle.prelude.specs.Bytes.{part}
+use Rattle.prelude.specs.Bytes.{stretchBytes}
 use Rattle.prelude.specs.Refusals.{outOfRange, noSuchNumber, refusal}
 use Rattle.days.specs.Days.{lastDay}
 use Rattle.days.specs.Facts.{factsOf}
@@ -15,45 +15,45 @@ use Rattle.falls.specs.declared.types.ShortMonth.{ShortMonth}
 use Rattle.pages.specs.Pages.{numbered, fallsOn, pageOn, lineOf, nth}
 use Rattle.pages.specs.Next.{nextOf}
 use Rattle.pages.specs.declared.types.Ready.{Ready}
-use Rattle.pages.specs.declared.types.Asked.{Asked}
+use Rattle.pages.specs.declared.types.Validated.{Validated}
 use Rattle.pages.specs.declared.types.FallsAnswer.{FallsAnswer}
 use Rattle.pages.specs.declared.types.CountAnswer.{CountAnswer}
 use Rattle.pages.specs.declared.types.LineAnswer.{LineAnswer}
 use Rattle.pages.specs.declared.types.NextAnswer.{NextAnswer}
 
 -- "Calls on a book give these first, then 11"
-unfoldable pub askedOf : CalendarDay → BookAnswer → Asked
-askedOf n (BookAnswer.Accepted b) =
-    ifLt lastDay (n .0) (Asked.Refused (refusal outOfRange)) (Asked.Ready (record { records = b .records; facts = factsOf (n .0) }))
-askedOf n (BookAnswer.Refused e) = Asked.Refused e
+unfoldable pub validatedDay : CalendarDay → BookAnswer → Validated
+validatedDay n (BookAnswer.Accepted b) =
+    ifLt lastDay (n .0) (Validated.Refused (refusal outOfRange)) (Validated.Ready (record { records = b .records; facts = factsOf (n .0) }))
+validatedDay n (BookAnswer.Refused e) = Validated.Refused e
 
-unfoldable pub asked : List ℕ → CalendarDay → Asked
-asked f n = askedOf n (bookOf f)
+unfoldable pub validated : List ℕ → CalendarDay → Validated
+validated f n = validatedDay n (bookOf f)
 
 -- does the record of a number fall on the day
-unfoldable pub fallsIn : List ℕ → ShortMonth → ℕ → Asked → FallsAnswer
-fallsIn f c k (Asked.Ready a) =
+unfoldable pub fallsIn : List ℕ → ShortMonth → ℕ → Validated → FallsAnswer
+fallsIn f c k (Validated.Ready a) =
     nth (numbered f) k (FallsAnswer.Refused (refusal noSuchNumber)) (λ x. FallsAnswer.Falls (fallsOn c (a .facts) x))
-fallsIn f c k (Asked.Refused e) = FallsAnswer.Refused e
+fallsIn f c k (Validated.Refused e) = FallsAnswer.Refused e
 
 -- "It gives its number of lines"
-unfoldable pub countIn : List ℕ → ShortMonth → Asked → CountAnswer
-countIn f c (Asked.Ready a) = CountAnswer.Count (length (pageOn c (a .facts) f))
-countIn f c (Asked.Refused e) = CountAnswer.Refused e
+unfoldable pub countIn : List ℕ → ShortMonth → Validated → CountAnswer
+countIn f c (Validated.Ready a) = CountAnswer.Count (length (pageOn c (a .facts) f))
+countIn f c (Validated.Refused e) = CountAnswer.Refused e
 
 -- "and the line at a place"
-unfoldable pub lineIn : List ℕ → ShortMonth → ℕ → Asked → LineAnswer
-lineIn f c k (Asked.Ready a) =
+unfoldable pub lineIn : List ℕ → ShortMonth → ℕ → Validated → LineAnswer
+lineIn f c k (Validated.Ready a) =
     nth (pageOn c (a .facts) f) k (LineAnswer.Refused (refusal noSuchNumber)) (λ x. LineAnswer.Line (lineOf x))
-lineIn f c k (Asked.Refused e) = LineAnswer.Refused e
+lineIn f c k (Validated.Refused e) = LineAnswer.Refused e
 
 -- the text of a line as that stretch of the file; nothing where there is no such line
 unfoldable pub lineText : List ℕ → LineAnswer → List ℕ
-lineText f (LineAnswer.Line l) = part f (l .text .place) (l .text .length)
+lineText f (LineAnswer.Line l) = stretchBytes f (l .text)
 lineText f (LineAnswer.Refused e) = []
 
 -- "Next occurrence, asked for a record and a day"
-unfoldable pub nextIn : List ℕ → ShortMonth → ℕ → Asked → NextAnswer
-nextIn f c k (Asked.Ready a) =
+unfoldable pub nextIn : List ℕ → ShortMonth → ℕ → Validated → NextAnswer
+nextIn f c k (Validated.Ready a) =
     nth (numbered f) k (NextAnswer.Refused (refusal noSuchNumber)) (λ x. nextOf (λ d. fallsOn c (factsOf d) x) (a .facts .day .0))
-nextIn f c k (Asked.Refused e) = NextAnswer.Refused e
+nextIn f c k (Validated.Refused e) = NextAnswer.Refused e

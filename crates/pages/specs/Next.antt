@@ -1,7 +1,8 @@
 -- The next occurrence, document 01: for any test of days.
 -- Assumes nothing.
-use Prim.Native.Nat.{ℕ, zero, suc, _+_, _-_}
-use mathlib.Core.Bool.{Bool}
+use Prim.Native.Nat.{ℕ, zero, suc, _+_, _-_, _<_, _≤_}
+use mathlib.Core.Path.{_≡_}
+use mathlib.Core.Bool.{Bool, true, false}
 use Rattle.prelude.specs.Choice.{ifB}
 use Rattle.days.specs.Days.{lastDay}
 use Rattle.pages.specs.declared.types.NextAnswer.{NextAnswer}
@@ -22,3 +23,15 @@ firstOf p asked (suc k) d = ifB (p d) (foundOn asked d) (firstOf p asked k (suc 
 -- "the first such day at or after it"
 unfoldable pub nextOf : (ℕ → Bool) → ℕ → NextAnswer
 nextOf p asked = firstOf p asked (lastDay + 1 - asked) asked
+
+-- what the answers say, for any test of days
+pub record FirstDay (p : ℕ → Bool) (asked found : ℕ) : Type 0 where
+  pub at : asked ≤ found
+  pub most : found ≤ lastDay
+  pub passes : p found ≡ true
+  pub none : (d : ℕ) → asked ≤ d → d < found → p d ≡ false
+
+abbrev pub Told : (ℕ → Bool) → ℕ → NextAnswer → Type 0
+Told p asked (NextAnswer.Found o) = FirstDay p asked (o .day .0) × (o .looked ≡ o .day .0 - asked + 1)
+Told p asked (NextAnswer.NoneLeft n) = ((d : ℕ) → asked ≤ d → d ≤ lastDay → p d ≡ false) × (n ≡ lastDay + 1 - asked)
+Told p asked (NextAnswer.Refused e) = Unit {0}

@@ -8,7 +8,7 @@ use native.Mathlib.Nat.{add-zero}
 use Rattle.prelude.specs.Choice.{ifLt, is-true, is-false, b-elim, lt-elim}
 use Rattle.days.specs.Days.{lastDay}
 use Rattle.spans.specs.Next.{Next}
-use Rattle.pages.specs.Next.{foundOn, noneFrom, firstOf, nextOf}
+use Rattle.pages.specs.Next.{foundOn, noneFrom, firstOf, nextOf, Told}
 use Rattle.pages.specs.declared.types.NextAnswer.{NextAnswer}
 
 module _ (p : ℕ → Bool) (asked : ℕ) where
@@ -47,18 +47,6 @@ module _ (p : ℕ → Bool) (asked : ℕ) where
       let e : asked + (n - asked) ≡ n = omega arith in
       from-past (n - asked) asked (omega arith) (λ b l m. x .none b l (omega arith)) ∙ ap from e
       ∙ lt-elim (λ z. from n ≡ z) n (lastDay + 1) _ _ (λ l. from-found n (omega arith) (x .hit l)) (λ g. let q : n ≡ lastDay + 1 = omega arith in ap from q ∙ from-end)
-
--- what the answers say, for any test of days
-pub record FirstDay (p : ℕ → Bool) (asked found : ℕ) : Type 0 where
-  pub at : asked ≤ found
-  pub most : found ≤ lastDay
-  pub passes : p found ≡ true
-  pub none : (d : ℕ) → asked ≤ d → d < found → p d ≡ false
-
-abbrev pub Told : (ℕ → Bool) → ℕ → NextAnswer → Type 0
-Told p asked (NextAnswer.Found o) = FirstDay p asked (o .day .0) × (o .looked ≡ o .day .0 - asked + 1)
-Told p asked (NextAnswer.NoneLeft n) = ((d : ℕ) → asked ≤ d → d ≤ lastDay → p d ≡ false) × (n ≡ lastDay + 1 - asked)
-Told p asked (NextAnswer.Refused e) = Unit {0}
 
 told-from :
     (p : ℕ → Bool) (asked k d : ℕ) → asked ≤ d → d + k ≡ lastDay + 1 → ((b : ℕ) → asked ≤ b → b < d → p b ≡ false)

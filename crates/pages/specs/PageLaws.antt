@@ -7,6 +7,7 @@ use mathlib.Core.List.{List, [], _∷_, map}
 use native.Mathlib.Omega.{arith}
 use lib.ListN.{length, getD, drop}
 use lib.Seq.{drop-cons}
+use Rattle.spans.specs.MoveLaws.{day-at}
 use Rattle.prelude.specs.Choice.{is-lt, is-ge, lt-elim, lt-skip}
 use Rattle.prelude.specs.Keep.{keep, keep-nil, keep-yes, keep-no}
 use Rattle.prelude.specs.Order.{length-sort}
@@ -23,9 +24,9 @@ use Rattle.book.specs.CountLaws.{count-most}
 use Rattle.book.specs.declared.types.Book.{Book}
 use Rattle.book.specs.declared.types.BookAnswer.{BookAnswer}
 use Rattle.pages.specs.Pages.{Numbered, numberedFrom, numbered, startOf, pageOf}
-use Rattle.pages.specs.Answers.{askedOf, asked}
+use Rattle.pages.specs.Answers.{validatedDay, validated}
 use Rattle.pages.specs.declared.types.Ready.{Ready}
-use Rattle.pages.specs.declared.types.Asked.{Asked}
+use Rattle.pages.specs.declared.types.Validated.{Validated}
 
 -- what an accepted question knows of the book and the day
 pub record ReadyBook (f : List ℕ) (a : Ready) : Type 0 where
@@ -41,45 +42,40 @@ ready-most {f} {a} r =
     let m : 12 + 14 * length (placesOf f) ≤ length f = count-most f (r .long) in
     omega (arith, r .size, r .count)
 
-refused-not : {e : Refusal} {a : Ready} → Asked.Refused e ≡ Asked.Ready a → ⊥
+refused-not : {e : Refusal} {a : Ready} → Validated.Refused e ≡ Validated.Ready a → ⊥
 refused-not c = let z : _≡_ {A = ℕ} 0 1 = cc in omega arith
 
-ready-inj : {a b : Ready} → Asked.Ready a ≡ Asked.Ready b → a ≡ b
+ready-inj : {a b : Ready} → Validated.Ready a ≡ Validated.Ready b → a ≡ b
 ready-inj e = cc
 
--- the day of a day's facts
-pub day-facts : (n : ℕ) → factsOf n .day .0 ≡ n
-unfolding factsOf
-day-facts n = refl
-
-from-accepted : (f : List ℕ) (n : CalendarDay) (b : Book) → AcceptedBook f b → {a : Ready} → askedOf n (BookAnswer.Accepted b) ≡ Asked.Ready a → ReadyBook f a
-unfolding askedOf
+from-accepted : (f : List ℕ) (n : CalendarDay) (b : Book) → AcceptedBook f b → {a : Ready} → validatedDay n (BookAnswer.Accepted b) ≡ Validated.Ready a → ReadyBook f a
+unfolding validatedDay
 from-accepted f n b h {a} e =
     let p = lt-skip lastDay (n .0) _ _ refused-not e in
     let q : _≡_ {A = Ready} (record { records = b .records; facts = factsOf (n .0) }) a = ready-inj (p .1) in
     let l : n .0 ≤ lastDay = p .0 in
     let fine : ReadyBook f (record { records = b .records; facts = factsOf (n .0) }) =
-    record { size = h .size; long = h .long; count = h .count; day = rw (day-facts (n .0)) l; facts = ap factsOf (sym (day-facts (n .0))) } in
+    record { size = h .size; long = h .long; count = h .count; day = rw (day-at (n .0)) l; facts = ap factsOf (sym (day-at (n .0))) } in
     rw q at fine
 
-from-book : (f : List ℕ) (n : CalendarDay) (b : BookAnswer) → bookOf f ≡ b → {a : Ready} → askedOf n b ≡ Asked.Ready a → ReadyBook f a
-unfolding askedOf
+from-book : (f : List ℕ) (n : CalendarDay) (b : BookAnswer) → bookOf f ≡ b → {a : Ready} → validatedDay n b ≡ Validated.Ready a → ReadyBook f a
+unfolding validatedDay
 from-book f n (BookAnswer.Accepted b) q e = from-accepted f n b (book-accepted f q) e
 from-book f n (BookAnswer.Refused r) q e = absurd (refused-not e)
 
-pub asked-ready : (f : List ℕ) (n : CalendarDay) {a : Ready} → asked f n ≡ Asked.Ready a → ReadyBook f a
-unfolding asked
-asked-ready f n e = from-book f n (bookOf f) refl e
+pub validated-ready : (f : List ℕ) (n : CalendarDay) {a : Ready} → validated f n ≡ Validated.Ready a → ReadyBook f a
+unfolding validated
+validated-ready f n e = from-book f n (bookOf f) refl e
 
 -- "then 11" is what the day layer says of the day
-unfoldable pub withFacts : ℕ → FactsAnswer → Asked
-withFacts n (FactsAnswer.Facts d) = Asked.Ready (record { records = n; facts = d })
-withFacts n (FactsAnswer.Refused e) = Asked.Refused e
+unfoldable pub withFacts : ℕ → FactsAnswer → Validated
+withFacts n (FactsAnswer.Facts d) = Validated.Ready (record { records = n; facts = d })
+withFacts n (FactsAnswer.Refused e) = Validated.Refused e
 
-pub asked-facts : (n : CalendarDay) (b : Book) → withFacts (b .records) (factsAnswer n) ≡ askedOf n (BookAnswer.Accepted b)
-unfolding askedOf factsAnswer withFacts
-asked-facts n b =
-    lt-elim {X = Unit {0}} (λ _. withFacts (b .records) (factsAnswer n) ≡ askedOf n (BookAnswer.Accepted b)) lastDay (n .0) tt tt
+pub validated-facts : (n : CalendarDay) (b : Book) → withFacts (b .records) (factsAnswer n) ≡ validatedDay n (BookAnswer.Accepted b)
+unfolding validatedDay factsAnswer withFacts
+validated-facts n b =
+    lt-elim {X = Unit {0}} (λ _. withFacts (b .records) (factsAnswer n) ≡ validatedDay n (BookAnswer.Accepted b)) lastDay (n .0) tt tt
     (λ h. simp (is-lt h)) (λ h. simp (is-ge h))
 
 -- the records from the n-th on, with their numbers

@@ -27,11 +27,11 @@ numberedFrom n (e ∷ es) = record { number = n; entry = e } ∷ numberedFrom (s
 unfoldable pub numbered : List ℕ → List Numbered
 numbered f = numberedFrom 0 (entriesOf f)
 
-abbrev pub hours : Numbered → Times
-hours x = timesOf (x .entry .«record»)
+abbrev pub recordTimes : Numbered → Times
+recordTimes x = timesOf (x .entry .«record»)
 
 abbrev pub startOf : Numbered → ℕ
-startOf x = hours x .start .0
+startOf x = recordTimes x .start .0
 
 -- "A day page lists the records that fall on it by start minute, then by place in the book": for any test
 unfoldable pub pageOf : (Numbered → Bool) → List ℕ → List Numbered
@@ -47,7 +47,7 @@ pageOn c d f = pageOf (fallsOn c d) f
 -- a line of the page: record number, start, end, alarm, and the text's stretch
 unfoldable pub lineOf : Numbered → Line
 lineOf x =
-    record { number = x .number; start = hours x .start; end = hours x .end; alarm = hours x .alarm; text = x .entry .text }
+    record { number = x .number; start = recordTimes x .start; end = recordTimes x .end; alarm = recordTimes x .alarm; text = x .entry .text }
 
 -- "the line at a place": what some gives of the element at a number, or none where there is none of that number
 unfoldable pub nth : {A X : Type 0} → List A → ℕ → X → (A → X) → X

@@ -4,7 +4,6 @@ ghost use mathlib.Core.List.{map};
 ghost use Prim.Native.Nat.{_≤_, _<_};
 ghost use lib.ListN.{length, take};
 ghost use Rattle.prelude.specs.Keep.{keep};
-ghost use Rattle.book.specs.Walk.{nextPlace, bodyAt};
 ghost use Rattle.book.specs.WalkLaws.{RecordAt};
 ghost use Rattle.book.specs.Books.{entryAt};
 ghost use Rattle.falls.specs.Falls.{falls};
@@ -13,6 +12,8 @@ ghost use Rattle.pages.specs.Pages.{numbered, fallsOn, pageOn};
 ghost use Rattle.pages.specs.Codes.{codeWith, code};
 ghost use Rattle.pages.specs.PageLaws.{ReadyBook};
 use crate::types::Ready;
+use book::entries::body_at;
+use book::entries::next_place;
 use days::types::DayFacts;
 use falls::rules::falls_quickly;
 use falls::times::start_of;
@@ -22,28 +23,8 @@ use falls::types::Times;
 use prelude::slices::byte;
 use prelude::slices::part;
 use prelude::slices::word;
-use prelude::slices::word_in;
 
-// The place after the record at a place of an accepted book.
-pub fn place_after(file: &[u8], at: usize) -> usize
-    requires { ⌜ RecordAt (now file) at ⌝ }
-    ensures { λ r. ⌜ r ≡ nextPlace (now (file .entry)) at ⌝ }
-{
-    let l = word_in(file, at + 1) as usize;
-    at + 3 + l
-}
-
-// The body of the record at such a place.
-pub fn body_at(file: &[u8], at: usize) -> &[u8]
-    requires { ⌜ RecordAt (now file) at ⌝ }
-    ensures { λ r. ⌜ now r ≡ bodyAt (now (file .entry)) at ⌝ }
-{
-    let l = word_in(file, at + 1) as usize;
-    let p = &file[at + 3..];
-    &p[..l]
-}
-
-// Whether the record at such a place falls on a day.
+// Whether the record at a place of an accepted book falls on a day.
 pub fn falls_at(file: &[u8], at: usize, c: ShortMonth, f: DayFacts) -> bool
     requires { ⌜ RecordAt (now file) at ⌝ }
     ensures { λ r. ⌜ r ≡ falls c f (entryAt (now (file .entry)) at .«record») ⌝ }
@@ -59,7 +40,7 @@ fn start_at(file: &[u8], at: usize) -> u16
     start_of(file[at], body_at(file, at))
 }
 
-// The hours and the alarm mark of the record at a place.
+// The times and the alarm mark of the record at a place.
 pub fn times_at(file: &[u8], at: usize) -> Times
     requires { ⌜ at ≤ 65535 ⌝ }
     ensures { λ r. ⌜ r ≡ timesOf (entryAt (now (file .entry)) at .«record») ⌝ }
@@ -81,7 +62,7 @@ pub fn count_lines(file: &[u8], c: ShortMonth, a: Ready) -> usize
     let mut count: usize = 0;
     while n < a.records {
         let here = at;
-        at = place_after(file, here);
+        at = next_place(file, here);
         n += 1;
         if falls_at(file, here, c, f) {
             count += 1;
@@ -114,7 +95,7 @@ pub fn collect(file: &[u8], c: ShortMonth, a: Ready, codes: &mut [u64]) -> usize
     while n < a.records {
         let here = at;
         let number = n;
-        at = place_after(file, here);
+        at = next_place(file, here);
         n += 1;
         if falls_at(file, here, c, f) {
             codes[count] = code_of(start_at(file, here), number, here);

@@ -2,16 +2,16 @@
 ghost use mathlib.Core.Path.{_≡_};
 ghost use Prim.Native.Nat.{_≤_};
 ghost use lib.ListN.{length};
-ghost use Rattle.pages.specs.Answers.{asked, countIn, lineIn, lineText};
+ghost use Rattle.pages.specs.Answers.{validated, countIn, lineIn, lineText};
 ghost use Rattle.pages.specs.PageLaws.{ReadyBook};
-use crate::asking::ask;
 use crate::collecting::count_lines;
 use crate::ordering::line_of;
 use crate::ordering::page_codes;
-use crate::types::Asked;
 use crate::types::CountAnswer;
 use crate::types::LineAnswer;
 use crate::types::Ready;
+use crate::types::Validated;
+use crate::validating::validate;
 use days::types::CalendarDay;
 use falls::types::ShortMonth;
 use prelude::refusals::NO_SUCH_NUMBER;
@@ -20,12 +20,12 @@ use prelude::slices::part;
 
 // The number of lines of a day's page.
 pub fn page_lines(file: &[u8], n: CalendarDay, c: ShortMonth) -> CountAnswer
-    ensures { λ r. ⌜ r ≡ countIn (now (file .entry)) c (asked (now (file .entry)) n) ⌝ }
+    ensures { λ r. ⌜ r ≡ countIn (now (file .entry)) c (validated (now (file .entry)) n) ⌝ }
 {
-    let a = ask(file, n);
+    let a = validate(file, n);
     match a {
-        Asked::Ready(b) => CountAnswer::Count(count_lines(file, c, b)),
-        Asked::Refused(e) => CountAnswer::Refused(e),
+        Validated::Ready(b) => CountAnswer::Count(count_lines(file, c, b)),
+        Validated::Refused(e) => CountAnswer::Refused(e),
     }
 }
 
@@ -40,7 +40,7 @@ fn line_with(
     requires { ⌜ ReadyBook (now file) a ⌝ }
     requires { ⌜ a .records ≤ length (now codes) ⌝ }
     requires { ⌜ length (now codes) ≤ length (now spare) ⌝ }
-    ensures { λ r. ⌜ r ≡ lineIn (now (file .entry)) c k (Asked.Ready a) ⌝ }
+    ensures { λ r. ⌜ r ≡ lineIn (now (file .entry)) c k (Validated.Ready a) ⌝ }
 {
     let n = page_codes(file, c, a, codes, spare);
     if k < n {
@@ -55,7 +55,7 @@ fn line_with(
 // A book of few records needs little working space.
 fn line_in(file: &[u8], c: ShortMonth, k: usize, a: Ready) -> LineAnswer
     requires { ⌜ ReadyBook (now file) a ⌝ }
-    ensures { λ r. ⌜ r ≡ lineIn (now (file .entry)) c k (Asked.Ready a) ⌝ }
+    ensures { λ r. ⌜ r ≡ lineIn (now (file .entry)) c k (Validated.Ready a) ⌝ }
 {
     if a.records <= 64 {
         let mut codes = [0u64; 64];
@@ -69,19 +69,19 @@ fn line_in(file: &[u8], c: ShortMonth, k: usize, a: Ready) -> LineAnswer
 
 // The line at a place of a day's page.
 pub fn line_at(file: &[u8], n: CalendarDay, c: ShortMonth, k: usize) -> LineAnswer
-    ensures { λ r. ⌜ r ≡ lineIn (now (file .entry)) c k (asked (now (file .entry)) n) ⌝ }
+    ensures { λ r. ⌜ r ≡ lineIn (now (file .entry)) c k (validated (now (file .entry)) n) ⌝ }
 {
-    let a = ask(file, n);
+    let a = validate(file, n);
     match a {
-        Asked::Ready(b) => line_in(file, c, k, b),
-        Asked::Refused(e) => LineAnswer::Refused(e),
+        Validated::Ready(b) => line_in(file, c, k, b),
+        Validated::Refused(e) => LineAnswer::Refused(e),
     }
 }
 
 // The text of that line, as that stretch of the caller's file; nothing where there is no such line.
 pub fn line_text(file: &[u8], n: CalendarDay, c: ShortMonth, k: usize) -> &[u8]
     ensures { λ r.
-        ⌜ now r ≡ lineText (now (file .entry)) (lineIn (now (file .entry)) c k (asked (now (file .entry)) n)) ⌝ }
+        ⌜ now r ≡ lineText (now (file .entry)) (lineIn (now (file .entry)) c k (validated (now (file .entry)) n)) ⌝ }
 {
     let a = line_at(file, n, c, k);
     match a {

@@ -8,16 +8,16 @@ ghost use Rattle.book.specs.Books.{entryAt};
 ghost use Rattle.book.specs.WalkLaws.{RecordAt};
 ghost use Rattle.falls.specs.Falls.{falls};
 ghost use Rattle.spans.specs.MoveLaws.{FactsAt};
-ghost use Rattle.pages.specs.Answers.{asked, fallsIn, nextIn};
+ghost use Rattle.pages.specs.Answers.{validated, fallsIn, nextIn};
 ghost use Rattle.pages.specs.Next.{nextOf};
 ghost use Rattle.pages.specs.PageLaws.{ReadyBook};
-use crate::asking::ask;
-use crate::collecting::body_at;
-use crate::types::Asked;
 use crate::types::FallsAnswer;
 use crate::types::NextAnswer;
 use crate::types::Occurrence;
 use crate::types::Ready;
+use crate::types::Validated;
+use crate::validating::validate;
+use book::entries::body_at;
 use book::entries::place_of;
 use days::types::CalendarDay;
 use days::types::DayFacts;
@@ -41,7 +41,7 @@ fn falls_there(file: &[u8], at: usize, c: ShortMonth, f: DayFacts) -> bool
 
 fn falls_in(file: &[u8], c: ShortMonth, k: usize, a: Ready) -> FallsAnswer
     requires { ⌜ ReadyBook (now file) a ⌝ }
-    ensures { λ r. ⌜ r ≡ fallsIn (now (file .entry)) c k (Asked.Ready a) ⌝ }
+    ensures { λ r. ⌜ r ≡ fallsIn (now (file .entry)) c k (Validated.Ready a) ⌝ }
 {
     if k < a.records {
         let at = place_of(file, k);
@@ -56,12 +56,12 @@ fn falls_in(file: &[u8], c: ShortMonth, k: usize, a: Ready) -> FallsAnswer
 
 // Whether the record of a number falls on a day.
 pub fn record_falls(file: &[u8], k: usize, n: CalendarDay, c: ShortMonth) -> FallsAnswer
-    ensures { λ r. ⌜ r ≡ fallsIn (now (file .entry)) c k (asked (now (file .entry)) n) ⌝ }
+    ensures { λ r. ⌜ r ≡ fallsIn (now (file .entry)) c k (validated (now (file .entry)) n) ⌝ }
 {
-    let a = ask(file, n);
+    let a = validate(file, n);
     match a {
-        Asked::Ready(b) => falls_in(file, c, k, b),
-        Asked::Refused(e) => FallsAnswer::Refused(e),
+        Validated::Ready(b) => falls_in(file, c, k, b),
+        Validated::Refused(e) => FallsAnswer::Refused(e),
     }
 }
 
@@ -85,7 +85,7 @@ fn search_on(t: u8, p: &[u8], c: ShortMonth, from: DayFacts) -> NextAnswer
 
 fn next_in(file: &[u8], c: ShortMonth, k: usize, a: Ready) -> NextAnswer
     requires { ⌜ ReadyBook (now file) a ⌝ }
-    ensures { λ r. ⌜ r ≡ nextIn (now (file .entry)) c k (Asked.Ready a) ⌝ }
+    ensures { λ r. ⌜ r ≡ nextIn (now (file .entry)) c k (Validated.Ready a) ⌝ }
 {
     if k < a.records {
         let at = place_of(file, k);
@@ -103,11 +103,11 @@ fn next_in(file: &[u8], c: ShortMonth, k: usize, a: Ready) -> NextAnswer
 
 // The next occurrence of the record of a number, from a day on.
 pub fn next_occurrence(file: &[u8], k: usize, n: CalendarDay, c: ShortMonth) -> NextAnswer
-    ensures { λ r. ⌜ r ≡ nextIn (now (file .entry)) c k (asked (now (file .entry)) n) ⌝ }
+    ensures { λ r. ⌜ r ≡ nextIn (now (file .entry)) c k (validated (now (file .entry)) n) ⌝ }
 {
-    let a = ask(file, n);
+    let a = validate(file, n);
     match a {
-        Asked::Ready(b) => next_in(file, c, k, b),
-        Asked::Refused(e) => NextAnswer::Refused(e),
+        Validated::Ready(b) => next_in(file, c, k, b),
+        Validated::Refused(e) => NextAnswer::Refused(e),
     }
 }

@@ -13,12 +13,12 @@ use crate::types::Line;
 use crate::types::Ready;
 use falls::types::ShortMonth;
 use order::ordering::order_codes;
+use prelude::slices::Stretch;
 use prelude::slices::byte;
 use prelude::slices::part;
 use prelude::slices::word;
 use records::fields::fixed_of;
 use records::fields::text_length;
-use records::types::Stretch;
 
 // The codes of a day's page, in its order, from the first of the lent ones on.
 pub fn page_codes(

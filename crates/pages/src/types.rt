@@ -3,7 +3,7 @@ use days::types::CalendarDay;
 use days::types::DayFacts;
 use days::types::Minute;
 use prelude::refusals::Refusal;
-use records::types::Stretch;
+use prelude::slices::Stretch;
 
 // An accepted book's number of records, and the facts of a day in range.
 pub struct Ready {
@@ -11,12 +11,12 @@ pub struct Ready {
     pub facts: DayFacts,
 }
 
-pub enum Asked {
+pub enum Validated {
     Ready(Ready),
     Refused(Refusal),
 }
 
-// A line of a page: the record's number, its hours, its alarm mark, and where its text lies in the file.
+// A line of a page: the record's number, its times, its alarm mark, and where its text lies in the file.
 pub struct Line {
     pub number: usize,
     pub start: Minute,

@@ -1,12 +1,16 @@
 -- The bytes of a list by place, 0 past its end, and whole numbers of two bytes: low byte first (`word`, `le16`) and high byte first (`wordHigh`, `be16`).
 -- Assumes nothing.
 use Prim.Native.Nat.{ℕ, zero, suc, _+_, _*_, _/_, _%_, _<_, _≤_}
-use mathlib.Core.Path.{_≡_, refl, sym}
+use mathlib.Core.Bool.{Bool}
+use mathlib.Core.Path.{_≡_, refl, sym, ap, _∙_}
 use mathlib.Core.List.{List, [], _∷_, _++_}
 use native.Mathlib.Omega.{arith}
 use native.Mathlib.Nat.{add-assoc}
-use lib.ListN.{length, getD, take, drop, List·getD-eq-default}
-use lib.Seq.{getD-drop, getD-append-add}
+use native.Mathlib.Numerals.{add-one}
+use lib.ListN.{length, getD, take, drop, take-append-drop, List·getD-eq-default}
+use lib.Seq.{getD-drop, getD-append-add, drop-cons, drop-drop, take-take}
+use Rattle.prelude.specs.Choice.{ifB, b-elim}
+use Rattle.prelude.specs.declared.slices.Stretch.{Stretch}
 
 -- the byte at a place
 abbrev pub byte : List ℕ → ℕ → ℕ
@@ -24,6 +28,14 @@ wordHigh f p = 256 * byte f p + byte f (p + 1)
 abbrev pub part : List ℕ → ℕ → ℕ → List ℕ
 part s a n = take n (drop a s)
 
+-- the bytes of a stretch
+abbrev pub stretchBytes : List ℕ → Stretch → List ℕ
+stretchBytes f s = part f (s .place) (s .length)
+
+-- a mark as a number
+unfoldable pub bit : Bool → ℕ
+bit b = ifB b 1 0
+
 -- a number as two bytes, low byte first
 unfoldable pub le16 : ℕ → List ℕ
 le16 n = n % 256 ∷ (n / 256 % 256 ∷ [])
@@ -36,6 +48,10 @@ be16 n = n / 256 % 256 ∷ (n % 256 ∷ [])
 abbrev pub Bytes : List ℕ → Type 0
 Bytes [] = Unit {0}
 Bytes (x ∷ xs) = (x < 256) × Bytes xs
+
+pub bit-most : (b : Bool) → bit b ≤ 1
+unfolding bit
+bit-most b = b-elim (λ n. n ≤ 1) b 1 0 (λ _. omega arith) (λ _. omega arith)
 
 pub length-le16 : (n : ℕ) → length (le16 n) ≡ 2
 unfolding le16
@@ -94,6 +110,16 @@ moved h s t a e i = rw (add-assoc a i 1, e i, e (i + 1))
 pub word-drop : (s : List ℕ) (a i : ℕ) → word (drop a s) i ≡ word s (a + i)
 word-drop s a i = sym (moved (λ x y. x + 256 * y) s (drop a s) a (λ k. sym (byte-drop s a k)) i)
 
+-- A part of a part.
+drop-take : (i m n : ℕ) (s : List ℕ) → i + m ≤ n → take m (drop i (take n s)) ≡ take m (drop i s)
+drop-take zero m n s h = take-take m n s (omega arith)
+drop-take (suc i) m zero s h = absurd (omega arith)
+drop-take (suc i) m (suc n) [] h = refl
+drop-take (suc i) m (suc n) (x ∷ s) h = drop-take i m n s (omega arith)
+
+pub part-part : (s : List ℕ) (a n i m : ℕ) → i + m ≤ n → part (part s a n) i m ≡ part s (a + i) m
+part-part s a n i m h = drop-take i m n (drop a s) h ∙ ap (take m) (drop-drop i a s)
+
 -- `Bytes`, by places and of two lists.
 pub bytes-at : (s : List ℕ) → Bytes s → (i : ℕ) → byte s i < 256
 bytes-at [] h i = omega arith
@@ -107,3 +133,17 @@ at-bytes (x ∷ xs) h = (h zero, at-bytes xs (λ i. h (suc i)))
 pub bytes-append : (xs ys : List ℕ) → Bytes xs → Bytes ys → Bytes (xs ++ ys)
 bytes-append [] ys h k = k
 bytes-append (x ∷ xs) ys h k = (h .0, bytes-append xs ys (h .1) k)
+
+-- The k bytes from i on, by place.
+abbrev pub bytesFrom : ℕ → ℕ → List ℕ → List ℕ
+bytesFrom i zero s = []
+bytesFrom i (suc k) s = byte s i ∷ bytesFrom (i + 1) k s
+
+pub part-places : (s : List ℕ) (i k : ℕ) → i + k ≤ length s → part s i k ≡ bytesFrom i k s
+part-places s i zero h = refl
+part-places s i (suc k) h =
+    let l : i < length s = omega arith in
+    rw (drop-cons s i 0) (ap (λ (q : List ℕ). byte s i ∷ q) (rw (← add-one i) (part-places s (i + 1) k (omega arith))))
+
+pub drop-places : (s : List ℕ) (i k : ℕ) → i + k ≤ length s → drop i s ≡ bytesFrom i k s ++ drop (i + k) s
+drop-places s i k h = sym (take-append-drop k (drop i s)) ∙ rw (part-places s i k h, drop-drop k i s)

@@ -1,3 +1,4 @@
-// The vocabulary of the whole project in code: refusals, and total helpers on slices.
+// The vocabulary of the whole project in code: refusals, numbers, and total helpers on slices.
+pub mod numbers;
 pub mod refusals;
 pub mod slices;

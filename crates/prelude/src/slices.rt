@@ -4,19 +4,19 @@ ghost use Prim.Native.Nat.{_+_, _<_, _≤_};
 ghost use lib.ListN.{length, drop};
 ghost use Rattle.prelude.specs.Bytes.{byte, word, wordHigh, part};
 ghost use Rattle.prelude.specs.Splice.{splice};
+use crate::numbers::wide;
+
+// A stretch of bytes: where it begins, and how many they are.
+pub struct Stretch {
+    pub place: usize,
+    pub length: usize,
+}
 
 // The byte at i, 0 past the end.
 pub fn byte(s: &[u8], i: usize) -> u8
     ensures { λ r. ⌜ r ≡ byte (now (s .entry)) i ⌝ }
 {
     if i < s.len() { s[i] } else { 0 }
-}
-
-// A byte as a wider number.
-fn wide(b: u8) -> u16
-    ensures { λ r. ⌜ (r ≡ b) × (r < 256) ⌝ }
-{
-    b as u16
 }
 
 // The number of the two bytes at i, low byte first.

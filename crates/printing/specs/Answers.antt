@@ -7,14 +7,14 @@ use Rattle.prelude.specs.Choice.{ifLt}
 use Rattle.prelude.specs.Splice.{splice}
 use Rattle.prelude.specs.Refusals.{noRoom, refusal}
 use Rattle.falls.specs.declared.types.ShortMonth.{ShortMonth}
-use Rattle.pages.specs.declared.types.Asked.{Asked}
+use Rattle.pages.specs.declared.types.Validated.{Validated}
 use Rattle.pages.specs.declared.types.CountAnswer.{CountAnswer}
 use Rattle.printing.specs.Printed.{pageText}
 
 -- how many bytes the printed page has
-unfoldable pub lengthIn : List ℕ → ShortMonth → Asked → CountAnswer
-lengthIn f c (Asked.Ready a) = CountAnswer.Count (length (pageText f c (a .facts)))
-lengthIn f c (Asked.Refused e) = CountAnswer.Refused e
+unfoldable pub lengthIn : List ℕ → ShortMonth → Validated → CountAnswer
+lengthIn f c (Validated.Ready a) = CountAnswer.Count (length (pageText f c (a .facts)))
+lengthIn f c (Validated.Refused e) = CountAnswer.Refused e
 
 -- "12: lent buffer shorter than the .. list to be written"; else how many bytes were written
 abbrev pub textGives : ℕ → List ℕ → CountAnswer
@@ -24,10 +24,10 @@ textGives room text = ifLt room (length text) (CountAnswer.Refused (refusal noRo
 abbrev pub textLeaves : List ℕ → List ℕ → List ℕ
 textLeaves out text = ifLt (length out) (length text) out (splice out 0 text)
 
-unfoldable pub printIn : List ℕ → ShortMonth → ℕ → Asked → CountAnswer
-printIn f c room (Asked.Ready a) = textGives room (pageText f c (a .facts))
-printIn f c room (Asked.Refused e) = CountAnswer.Refused e
+unfoldable pub printIn : List ℕ → ShortMonth → ℕ → Validated → CountAnswer
+printIn f c room (Validated.Ready a) = textGives room (pageText f c (a .facts))
+printIn f c room (Validated.Refused e) = CountAnswer.Refused e
 
-unfoldable pub printLeaves : List ℕ → ShortMonth → List ℕ → Asked → List ℕ
-printLeaves f c out (Asked.Ready a) = textLeaves out (pageText f c (a .facts))
-printLeaves f c out (Asked.Refused e) = out
+unfoldable pub printLeaves : List ℕ → ShortMonth → List ℕ → Validated → List ℕ
+printLeaves f c out (Validated.Ready a) = textLeaves out (pageText f c (a .facts))
+printLeaves f c out (Validated.Refused e) = out

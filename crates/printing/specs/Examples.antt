@@ -14,7 +14,7 @@ use Rattle.pages.specs.SetP.{setP}
 use Rattle.days.specs.declared.types.DayFacts.{DayFacts}
 use Rattle.records.specs.Fields.{datedOf, recordOf, fixedOf}
 use Rattle.records.specs.Ranges.{timesOk, datedOk}
-use Rattle.records.specs.Notes.{noZero, linesOf, shortLines, noteOk}
+use Rattle.notes.specs.Notes.{noZero, linesOf, shortLines, noteOk}
 use Rattle.records.specs.Bodies.{lengthsFit, lengthsOk, fieldsOk, textsOk, judgeBody}
 use Rattle.book.specs.Walk.{judgeHead, judged, stepAt, walkF, walkFrom, walkOf, placesIn}
 use Rattle.book.specs.Books.{entryAt, placesOf, entriesOf}

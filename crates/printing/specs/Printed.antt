@@ -5,10 +5,9 @@ use Prim.Native.Nat.{ℕ, _/_, _%_}
 use mathlib.Core.List.{List, [], _∷_, _++_, map}
 use lib.ListN.{length}
 use Rattle.prelude.specs.Choice.{ifEq}
-use Rattle.prelude.specs.Bytes.{part}
+use Rattle.prelude.specs.Bytes.{stretchBytes}
 use Rattle.days.specs.declared.types.Date.{Date}
 use Rattle.days.specs.declared.types.DayFacts.{DayFacts}
-use Rattle.records.specs.declared.types.Stretch.{Stretch}
 use Rattle.falls.specs.declared.types.ShortMonth.{ShortMonth}
 use Rattle.digits.specs.Digits.{two, four, decimal}
 use Rattle.pages.specs.Pages.{pageOn, lineOf}
@@ -49,14 +48,10 @@ headLine d n =
 unfoldable pub clock : ℕ → List ℕ
 clock m = two (m / 60) ++ (colon ∷ two (m % 60))
 
--- that stretch of the file
-abbrev pub stretch : List ℕ → Stretch → List ℕ
-stretch f s = part f (s .place) (s .length)
-
 -- "each start, end and text; an empty text leaves the space before it"
 unfoldable pub pageLine : List ℕ → Line → List ℕ
 pageLine f l =
-    clock (l .start .0) ++ (dash ∷ (clock (l .end .0) ++ (space ∷ (stretch f (l .text) ++ (newline ∷ [])))))
+    clock (l .start .0) ++ (dash ∷ (clock (l .end .0) ++ (space ∷ (stretchBytes f (l .text) ++ (newline ∷ [])))))
 
 unfoldable pub pageLines : List ℕ → List Line → List ℕ
 pageLines f [] = []

@@ -7,6 +7,7 @@ use native.Mathlib.Omega.{arith}
 use native.Mathlib.Numerals.{add-one}
 use lib.ListN.{length, getD, take, drop, length-append, length-map, drop-of-length-le}
 use lib.Seq.{drop-cons}
+use Rattle.prelude.specs.Bytes.{stretchBytes}
 use Rattle.prelude.specs.Choice.{eq-elim}
 use Rattle.days.specs.declared.types.Date.{Date}
 use Rattle.days.specs.declared.types.DayFacts.{DayFacts}
@@ -19,7 +20,7 @@ use Rattle.pages.specs.PageLaws.{ReadyBook}
 use Rattle.pages.specs.DecodeLaws.{page-decoded}
 use Rattle.pages.specs.declared.types.Ready.{Ready}
 use Rattle.pages.specs.declared.types.Line.{Line}
-use Rattle.printing.specs.Printed.{dateText, weekdayName, headLine, clock, stretch, pageLine, pageLines, printed, pageText}
+use Rattle.printing.specs.Printed.{dateText, weekdayName, headLine, clock, pageLine, pageLines, printed, pageText}
 use Rattle.prelude.specs.Totals.{total}
 
 length-date : (d : Date) → length (dateText d) ≡ 10
@@ -48,7 +49,7 @@ length-head d n =
     let b = length-weekday (d .weekday) in
     simp length-append (omega arith)
 
-pub length-line : (f : List ℕ) (l : Line) → length (pageLine f l) ≡ 13 + length (stretch f (l .text))
+pub length-line : (f : List ℕ) (l : Line) → length (pageLine f l) ≡ 13 + length (stretchBytes f (l .text))
 unfolding pageLine
 length-line f l =
     let a = length-clock (l .start .0) in
@@ -59,7 +60,7 @@ length-line f l =
 abbrev pub lineSize : List ℕ → Numbered → ℕ
 lineSize f x = length (pageLine f (lineOf x))
 
-pub line-size : (f : List ℕ) (x : Numbered) → lineSize f x ≡ 13 + length (stretch f (x .entry .text))
+pub line-size : (f : List ℕ) (x : Numbered) → lineSize f x ≡ 13 + length (stretchBytes f (x .entry .text))
 unfolding lineOf
 line-size f x = length-line f (lineOf x)
 
@@ -86,7 +87,7 @@ lines-end f codes i h = rw (drop-of-length-le codes h)
 pub lines-on :
     (f codes : List ℕ) (i bytes : ℕ) → i < length codes
     → length (pageLines f (linesOf f codes)) ≡ bytes + length (pageLines f (linesOf f (drop i codes)))
-    → length (pageLines f (linesOf f codes)) ≡ bytes + (13 + length (stretch f (entryAt f (getD codes i 0 % 65536) .text))) + length (pageLines f (linesOf f (drop (i + 1) codes)))
+    → length (pageLines f (linesOf f codes)) ≡ bytes + (13 + length (stretchBytes f (entryAt f (getD codes i 0 % 65536) .text))) + length (pageLines f (linesOf f (drop (i + 1) codes)))
 unfolding lineOf decode
 lines-on f codes i bytes h e =
     let l = length-line f (lineOf (decode f (getD codes i 0))) in

@@ -6,6 +6,7 @@ use mathlib.Core.Bool.{Bool}
 use mathlib.Core.List.{List, map}
 use native.Mathlib.Omega.{arith}
 use lib.ListN.{length, length-append, length-map, length-take, length-drop}
+use Rattle.prelude.specs.Bytes.{stretchBytes}
 use Rattle.prelude.specs.Choice.{tested}
 use Rattle.prelude.specs.Keep.{keep}
 use Rattle.prelude.specs.Order.{sort}
@@ -21,7 +22,7 @@ use Rattle.digits.specs.DecimalLaws.{length-below}
 use Rattle.pages.specs.Pages.{Numbered, numbered, startOf, pageOf, fallsOn, pageOn, lineOf}
 use Rattle.pages.specs.PageLaws.{ReadyBook, numberedAt, numbered-first, recordAt, Turn, turn, turn-yes, turn-no, turn-end, length-page}
 use Rattle.pages.specs.declared.types.Ready.{Ready}
-use Rattle.printing.specs.Printed.{headLine, stretch, pageLines, printed, pageText}
+use Rattle.printing.specs.Printed.{headLine, pageLines, printed, pageText}
 use Rattle.prelude.specs.Totals.{total, total-nil, total-cons, total-sort}
 use Rattle.printing.specs.PrintedLaws.{length-head, lineSize, line-size, length-lines}
 
@@ -50,7 +51,7 @@ smaller f n at r =
     let p = bodyAt f at in
     let j : Judged t p = judged t p (r .fine) in
     let l : length p ≤ lengthAt f at = simp (length-take, length-drop) (omega arith) in
-    let s : length (stretch f (entryAt f at .text)) ≤ textLength t p = simp (length-take, length-drop) (omega arith) in
+    let s : length (stretchBytes f (entryAt f at .text)) ≤ textLength t p = simp (length-take, length-drop) (omega arith) in
     let b : fixedOf t + textLength t p + noteLength t p ≤ length p = j .fits in
     let m : textLength t p ≤ 27 = j .text-most in
     let x = fixed-range t in

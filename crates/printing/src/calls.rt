@@ -3,9 +3,9 @@ ghost use mathlib.Core.Path.{_≡_};
 ghost use Prim.Native.Nat.{_+_, _≤_};
 ghost use lib.ListN.{length};
 ghost use Rattle.prelude.specs.Splice.{splice};
-ghost use Rattle.pages.specs.Answers.{asked};
+ghost use Rattle.pages.specs.Answers.{validated};
 ghost use Rattle.pages.specs.PageLaws.{ReadyBook};
-ghost use Rattle.pages.specs.declared.types.Asked.{Asked};
+ghost use Rattle.pages.specs.declared.types.Validated.{Validated};
 ghost use Rattle.printing.specs.PrintedLaws.{codedText};
 ghost use Rattle.printing.specs.Answers.{textGives, textLeaves, lengthIn, printIn, printLeaves};
 use crate::measures::coded_size;
@@ -15,22 +15,22 @@ use crate::puts::put_lines;
 use days::types::CalendarDay;
 use days::types::DayFacts;
 use falls::types::ShortMonth;
-use pages::asking::ask;
 use pages::ordering::page_codes;
-use pages::types::Asked;
 use pages::types::CountAnswer;
 use pages::types::Ready;
+use pages::types::Validated;
+use pages::validating::validate;
 use prelude::refusals::NO_ROOM;
 use prelude::refusals::Refusal;
 
 // How many bytes the printed page of a day has.
 pub fn page_length(file: &[u8], n: CalendarDay, c: ShortMonth) -> CountAnswer
-    ensures { λ r. ⌜ r ≡ lengthIn (now (file .entry)) c (asked (now (file .entry)) n) ⌝ }
+    ensures { λ r. ⌜ r ≡ lengthIn (now (file .entry)) c (validated (now (file .entry)) n) ⌝ }
 {
-    let a = ask(file, n);
+    let a = validate(file, n);
     match a {
-        Asked::Ready(b) => CountAnswer::Count(page_size(file, c, b)),
-        Asked::Refused(e) => CountAnswer::Refused(e),
+        Validated::Ready(b) => CountAnswer::Count(page_size(file, c, b)),
+        Validated::Refused(e) => CountAnswer::Refused(e),
     }
 }
 
@@ -70,8 +70,8 @@ fn print_with(
     requires { ⌜ ReadyBook (now file) a ⌝ }
     requires { ⌜ a .records ≤ length (now codes) ⌝ }
     requires { ⌜ length (now codes) ≤ length (now spare) ⌝ }
-    ensures gives { λ r. ⌜ r ≡ printIn (now (file .entry)) c (length (now (out .entry))) (Asked.Ready a) ⌝ }
-    ensures leaves { λ _. ⌜ now (out .exit) ≡ printLeaves (now (file .entry)) c (now (out .entry)) (Asked.Ready a) ⌝ }
+    ensures gives { λ r. ⌜ r ≡ printIn (now (file .entry)) c (length (now (out .entry))) (Validated.Ready a) ⌝ }
+    ensures leaves { λ _. ⌜ now (out .exit) ≡ printLeaves (now (file .entry)) c (now (out .entry)) (Validated.Ready a) ⌝ }
 {
     let n = page_codes(file, c, a, codes, spare);
     let f = a.facts;
@@ -81,8 +81,8 @@ fn print_with(
 // A book of few records needs little working space.
 fn print_in(file: &[u8], c: ShortMonth, a: Ready, out: &mut [u8]) -> CountAnswer
     requires { ⌜ ReadyBook (now file) a ⌝ }
-    ensures gives { λ r. ⌜ r ≡ printIn (now (file .entry)) c (length (now (out .entry))) (Asked.Ready a) ⌝ }
-    ensures leaves { λ _. ⌜ now (out .exit) ≡ printLeaves (now (file .entry)) c (now (out .entry)) (Asked.Ready a) ⌝ }
+    ensures gives { λ r. ⌜ r ≡ printIn (now (file .entry)) c (length (now (out .entry))) (Validated.Ready a) ⌝ }
+    ensures leaves { λ _. ⌜ now (out .exit) ≡ printLeaves (now (file .entry)) c (now (out .entry)) (Validated.Ready a) ⌝ }
 {
     if a.records <= 64 {
         let mut codes = [0u64; 64];
@@ -96,12 +96,12 @@ fn print_in(file: &[u8], c: ShortMonth, a: Ready, out: &mut [u8]) -> CountAnswer
 
 // The printed page of a day at the start of a lent buffer, and how many bytes it has.
 pub fn print_page(file: &[u8], n: CalendarDay, c: ShortMonth, out: &mut [u8]) -> CountAnswer
-    ensures gives { λ r. ⌜ r ≡ printIn (now (file .entry)) c (length (now (out .entry))) (asked (now (file .entry)) n) ⌝ }
-    ensures leaves { λ _. ⌜ now (out .exit) ≡ printLeaves (now (file .entry)) c (now (out .entry)) (asked (now (file .entry)) n) ⌝ }
+    ensures gives { λ r. ⌜ r ≡ printIn (now (file .entry)) c (length (now (out .entry))) (validated (now (file .entry)) n) ⌝ }
+    ensures leaves { λ _. ⌜ now (out .exit) ≡ printLeaves (now (file .entry)) c (now (out .entry)) (validated (now (file .entry)) n) ⌝ }
 {
-    let a = ask(file, n);
+    let a = validate(file, n);
     match a {
-        Asked::Ready(b) => print_in(file, c, b, out),
-        Asked::Refused(e) => CountAnswer::Refused(e),
+        Validated::Ready(b) => print_in(file, c, b, out),
+        Validated::Refused(e) => CountAnswer::Refused(e),
     }
 }

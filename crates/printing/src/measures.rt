@@ -3,17 +3,18 @@ ghost use mathlib.Core.Path.{_≡_};
 ghost use mathlib.Core.List.{map};
 ghost use Prim.Native.Nat.{_+_, _≤_};
 ghost use lib.ListN.{length};
+ghost use Rattle.prelude.specs.Bytes.{stretchBytes};
 ghost use Rattle.book.specs.Books.{entryAt};
 ghost use Rattle.pages.specs.Pages.{pageOn, lineOf};
 ghost use Rattle.pages.specs.PageLaws.{ReadyBook};
-ghost use Rattle.printing.specs.Printed.{stretch, pageLines, pageText};
+ghost use Rattle.printing.specs.Printed.{pageLines, pageText};
 ghost use Rattle.printing.specs.PrintedLaws.{linesOf, codedText};
 use crate::types::Size;
+use book::entries::next_place;
 use days::types::DayFacts;
 use digits::puts::decimal_length;
 use falls::types::ShortMonth;
 use pages::collecting::falls_at;
-use pages::collecting::place_after;
 use pages::ordering::text_of;
 use pages::types::Ready;
 use prelude::slices::part;
@@ -21,7 +22,7 @@ use prelude::slices::part;
 // The bytes of the line of the record at a place.
 fn line_size(file: &[u8], at: usize) -> usize
     requires { ⌜ at ≤ 65535 ⌝ }
-    ensures { λ r. ⌜ r ≡ 13 + length (stretch (now (file .entry)) (entryAt (now (file .entry)) at .text)) ⌝ }
+    ensures { λ r. ⌜ r ≡ 13 + length (stretchBytes (now (file .entry)) (entryAt (now (file .entry)) at .text)) ⌝ }
 {
     let s = text_of(file, at);
     let text = part(file, s.place, s.length);
@@ -41,7 +42,7 @@ fn measure(file: &[u8], c: ShortMonth, a: Ready) -> Size
     let mut bytes: usize = 0;
     while n < a.records {
         let here = at;
-        at = place_after(file, here);
+        at = next_place(file, here);
         n += 1;
         if falls_at(file, here, c, f) {
             lines += 1;

@@ -1,14 +1,14 @@
 -- What was read is written again: an accepted body without padding, in whose state byte only named bits are set, is the encoding of what it holds.
 -- Assumes nothing.
-use Prim.Native.Nat.{ℕ, zero, suc, _+_, _-_, _≤_, _<_}
-use mathlib.Core.Path.{_≡_, refl, sym, ap, _∙_}
-use mathlib.Core.Bool.{Bool, true, false, false≢true}
+use Prim.Native.Nat.{ℕ, zero, suc, _+_, _-_, _≤_}
+use mathlib.Core.Path.{_≡_, refl, sym, _∙_}
+use mathlib.Core.Bool.{true, false, false≢true}
 use mathlib.Core.List.{List, [], _∷_, _++_}
 use native.Mathlib.Omega.{arith}
 use lib.ListN.{length, take, drop, length-drop, take-append-drop}
-use lib.Seq.{take-all, drop-drop, drop-cons}
-use Rattle.prelude.specs.Choice.{ifLt, ifEq, ifB, is-ge, is-true, is-false, eq-elim, b-elim, eq-take, lt-skip}
-use Rattle.prelude.specs.Bytes.{byte, word, wordHigh, Bytes, le16, be16, le16-join, be16-join, bytes-at}
+use lib.Seq.{take-all, drop-drop}
+use Rattle.prelude.specs.Choice.{ifEq, ifB, is-ge, is-true, is-false, eq-elim, b-elim, eq-take, lt-skip}
+use Rattle.prelude.specs.Bytes.{part-places, bit, byte, word, wordHigh, Bytes, le16, be16, le16-join, be16-join, bytes-at}
 use Rattle.records.specs.declared.types.CheckOff.{CheckOff}
 use Rattle.records.specs.declared.types.Record.{Record}
 use Rattle.records.specs.Fields.{dateAt, bit0, bit1, datedOf, repeatOf, weeklyOf, monthlyByDateOf, monthlyByPositionOf, yearlyOf, toDoOf, checkOffOf, recordOf, fixedOf, textLength, noteLength, textOf, noteOf}
@@ -16,27 +16,12 @@ use Rattle.records.specs.Ranges.{threeZeros, checkOffClean}
 use Rattle.records.specs.RangeLaws.{Within, fields-clean}
 use Rattle.records.specs.Bodies.{judgeBody}
 use Rattle.records.specs.JudgeLaws.{fixed-range, judged, text-long, note-long}
-use Rattle.records.specs.Encoding.{dateBytes, stateByte, checkOffBit, checkOffBytes, tailBytes, fromStart, fixedBytes, typeOf, bodyBytes, encode}
+use Rattle.records.specs.Encoding.{plainState, dateBytes, checkOffBit, checkOffBytes, tailBytes, fromStart, fixedBytes, typeOf, bodyBytes, encode}
 use Rattle.records.specs.BodyLaws.{state-byte, check-bit}
 
--- "other bits are .. written as 0": none is set beside bit 0 and, of a to-do, bit 1
-unfoldable pub plainState : ℕ → List ℕ → Bool
-plainState t p = ifLt (ifEq t 6 3 1) (byte p 0) false true
-
--- The first bytes of a list, by place.
-abbrev bytesFrom : ℕ → ℕ → List ℕ → List ℕ
-bytesFrom i zero p = []
-bytesFrom i (suc k) p = byte p i ∷ bytesFrom (suc i) k p
-
-part-places : (i k : ℕ) (p : List ℕ) → i + k ≤ length p → take k (drop i p) ≡ bytesFrom i k p
-part-places i zero p h = refl
-part-places i (suc k) p h =
-    let l : i < length p = omega arith in
-    rw (drop-cons p i 0) (ap (λ (q : List ℕ). byte p i ∷ q) (part-places (suc i) k p (omega arith)))
-
 -- One field is written again.
-state-again : (x : ℕ) (q : List ℕ) → x ≤ 1 → stateByte (bit0 (x ∷ q)) ≡ x
-unfolding stateByte ifB
+state-again : (x : ℕ) (q : List ℕ) → x ≤ 1 → bit (bit0 (x ∷ q)) ≡ x
+unfolding bit ifB
 state-again zero q h = refl
 state-again (suc zero) q h = refl
 state-again (suc (suc x)) q h = absurd (omega arith)
@@ -57,15 +42,15 @@ high-again p b i = be16-join (byte p i) (byte p (i + 1)) (bytes-at p b i) (bytes
 repeat-again : (x a : ℕ) (q : List ℕ) → Bytes q → 14 ≤ length q → fromStart (repeatOf (x ∷ (a ∷ q)) 2) (byte q 11) (word q 12) ≡ take 14 q
 unfolding fromStart tailBytes repeatOf
 repeat-again x a q b l =
-    rw (high-again q b 0, date-again q 2, low-again q b 5, date-again q 7, low-again q b 12, part-places 0 14 q l)
+    rw (high-again q b 0, date-again q 2, low-again q b 5, date-again q 7, low-again q b 12, part-places q 0 14 l)
 
 -- and the state in front, with the bytes m between
-framed : (x a : ℕ) (m q : List ℕ) → Bytes q → 14 ≤ length q → x ≤ 1 → stateByte (bit0 (x ∷ q)) ∷ (m ++ fromStart (repeatOf (x ∷ (a ∷ q)) 2) (byte q 11) (word q 12)) ≡ x ∷ (m ++ take 14 q)
+framed : (x a : ℕ) (m q : List ℕ) → Bytes q → 14 ≤ length q → x ≤ 1 → bit (bit0 (x ∷ q)) ∷ (m ++ fromStart (repeatOf (x ∷ (a ∷ q)) 2) (byte q 11) (word q 12)) ≡ x ∷ (m ++ take 14 q)
 framed x a m q b l h = rw (state-again x q h, repeat-again x a q b l)
 
 -- a to-do's state and check-off date
-bits-again : (x : ℕ) (q : List ℕ) → x ≤ 3 → stateByte (bit0 (x ∷ q)) + ifB (bit1 (x ∷ q)) 2 0 ≡ x
-unfolding stateByte ifB
+bits-again : (x : ℕ) (q : List ℕ) → x ≤ 3 → bit (bit0 (x ∷ q)) + ifB (bit1 (x ∷ q)) 2 0 ≡ x
+unfolding bit ifB
 bits-again zero q h = refl
 bits-again (suc zero) q h = refl
 bits-again (suc (suc zero)) q h = refl
@@ -73,7 +58,7 @@ bits-again (suc (suc (suc zero))) q h = refl
 bits-again (suc (suc (suc (suc x)))) q h = absurd (omega arith)
 
 record Checked (x : ℕ) (q : List ℕ) (c : CheckOff) : Type 0 where
-  state : stateByte (bit0 (x ∷ q)) + checkOffBit c ≡ x
+  state : bit (bit0 (x ∷ q)) + checkOffBit c ≡ x
   date : checkOffBytes c ≡ byte q 4 ∷ (byte q 5 ∷ (byte q 6 ∷ []))
 
 check-again : (x : ℕ) (q : List ℕ) → x ≤ 3 → checkOffClean (x ∷ q) ≡ true → Checked x q (checkOffOf (x ∷ q))
@@ -98,7 +83,7 @@ unfolding recordOf fixedOf ifEq fixedBytes datedOf weeklyOf monthlyByDateOf mont
 fixed-of zero x a c q w b l h k = absurd (omega arith)
 fixed-of (suc zero) x a c q w b l h k =
     let r : List ℕ = a ∷ (c ∷ q) in
-    rw (state-again x r h, date-again r 0, high-again r (b .1) 3, low-again r (b .1) 5, low-again r (b .1) 9, part-places 0 11 r (omega arith))
+    rw (state-again x r h, date-again r 0, high-again r (b .1) 3, low-again r (b .1) 5, low-again r (b .1) 9, part-places r 0 11 (omega arith))
 fixed-of (suc (suc zero)) x a c q w b l h k = framed x a (a ∷ []) (c ∷ q) (b .1 .1) (omega arith) h
 fixed-of (suc (suc (suc zero))) x a c q w b l h k = framed x a (a ∷ []) (c ∷ q) (b .1 .1) (omega arith) h
 fixed-of (suc (suc (suc (suc zero)))) x a c q w b l h k = framed x c (a ∷ (c ∷ [])) q (b .1 .1 .1) (omega arith) h
@@ -106,7 +91,7 @@ fixed-of (suc (suc (suc (suc (suc zero))))) x a c q w b l h k = framed x c (a �
 fixed-of (suc (suc (suc (suc (suc (suc zero)))))) x a c q w b l h k =
     let r : List ℕ = a ∷ (c ∷ q) in
     let m = check-again x r h (k refl) in
-    rw (m .state, date-again r 1, m .date, low-again r (b .1) 8, part-places 0 10 r (omega arith))
+    rw (m .state, date-again r 1, m .date, low-again r (b .1) 8, part-places r 0 10 (omega arith))
 fixed-of (suc (suc (suc (suc (suc (suc (suc t))))))) x a c q w b l h k = absurd (omega arith)
 
 fixed-again : (t : ℕ) (p : List ℕ) → Within 1 t 6 → Bytes p → fixedOf t ≤ length p → byte p 0 ≤ ifEq t 6 3 1 → (t ≡ 6 → checkOffClean p ≡ true) → FixedAgain t p

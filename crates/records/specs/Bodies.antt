@@ -8,7 +8,7 @@ use Rattle.prelude.specs.Choice.{ifLt, ifEq, ifB}
 use Rattle.prelude.specs.Refusals.{badLength, badField, badText}
 use Rattle.records.specs.Fields.{datedOf, weeklyOf, monthlyByDateOf, monthlyByPositionOf, yearlyOf, toDoOf, fixedOf, textLength, noteLength, textOf, noteOf}
 use Rattle.records.specs.Ranges.{datedOk, weeklyOk, monthlyByDateOk, monthlyByPositionOk, yearlyOk, toDoOk, checkOffClean}
-use Rattle.records.specs.Notes.{noZero, noteOk}
+use Rattle.notes.specs.Notes.{noZero, noteOk}
 
 -- "L below the fixed bytes, text over 27, or fixed + text + note over L"
 unfoldable pub lengthsFit : ℕ → ℕ → ℕ → ℕ → Bool

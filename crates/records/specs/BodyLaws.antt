@@ -8,7 +8,7 @@ use native.Mathlib.Omega.{arith}
 use lib.ListN.{length, drop, length-append}
 use lib.Seq.{take-length, drop-at, drop-drop, take-append-seam, drop-append-seam}
 use Rattle.prelude.specs.Choice.{ifB, is-true, is-ge, lt-skip}
-use Rattle.prelude.specs.Bytes.{Bytes, le16, be16, length-le16, le16-bytes, bytes-append}
+use Rattle.prelude.specs.Bytes.{bit, Bytes, le16, be16, length-le16, le16-bytes, bytes-append}
 use Rattle.days.specs.declared.types.Date.{Date}
 use Rattle.days.specs.DateLaws.{Valid, valid-facts, length-bounds}
 use Rattle.records.specs.declared.types.Repeat.{Repeat}
@@ -17,9 +17,9 @@ use Rattle.records.specs.declared.types.Record.{Record}
 use Rattle.records.specs.Fields.{recordOf, fixedOf, textLength, noteLength, textOf, noteOf}
 use Rattle.records.specs.Ranges.{recordOk, checkOffOk, checkOffClean}
 use Rattle.records.specs.RangeLaws.{three-bytes, RepeatFacts, Facts, facts, record-fields}
-use Rattle.records.specs.Notes.{noZero, noteOk}
+use Rattle.notes.specs.Notes.{noZero, noteOk}
 use Rattle.records.specs.Bodies.{lengthsFit, lengthsOk, fieldsOk, textsOk, judgeBody}
-use Rattle.records.specs.Encoding.{dateBytes, stateByte, checkOffBit, checkOffBytes, tailBytes, fromStart, fixedBytes, typeOf, bodyBytes, encode}
+use Rattle.records.specs.Encoding.{dateBytes, checkOffBit, checkOffBytes, tailBytes, fromStart, fixedBytes, typeOf, bodyBytes, encode}
 use Rattle.records.specs.EncodingLaws.{type-range, length-fixed, decode-text-length, decode-note-length, decode-record, clean-typed}
 
 -- "at most 440 bytes"
@@ -94,8 +94,8 @@ unfolding checkOffBytes checkOffOk
 check-bytes CheckOff.NotCheckedOff h = omega arith
 check-bytes (CheckOff.On d) h = date-bytes d (valid-facts h)
 
-pub state-byte : (b : Bool) → stateByte b < 2
-unfolding stateByte ifB
+pub state-byte : (b : Bool) → bit b < 2
+unfolding bit ifB
 state-byte true = omega arith
 state-byte false = omega arith
 

@@ -7,7 +7,7 @@ use mathlib.Core.List.{List, [], _∷_, _++_}
 use native.Mathlib.Omega.{arith}
 use lib.ListN.{length}
 use Rattle.prelude.specs.Choice.{ifEq, ifB}
-use Rattle.prelude.specs.Bytes.{byte, le16, be16, word-le16, word-high-be16}
+use Rattle.prelude.specs.Bytes.{bit, byte, le16, be16, word-le16, word-high-be16}
 use Rattle.days.specs.declared.types.Date.{Date}
 use Rattle.days.specs.declared.types.Minute.{Minute}
 use Rattle.days.specs.DateLaws.{valid-facts}
@@ -19,7 +19,7 @@ use Rattle.records.specs.declared.types.Record.{Record}
 use Rattle.records.specs.Fields.{dateAt, startAt, minuteAt, bit0, datedOf, repeatOf, weeklyOf, monthlyByDateOf, monthlyByPositionOf, yearlyOf, toDoOf, checkOffOf, recordOf, fixedOf, textLength, noteLength}
 use Rattle.records.specs.Ranges.{recordOk, checkOffOk, threeZeros, checkOffClean}
 use Rattle.records.specs.RangeLaws.{Within, DatedFacts, RepeatFacts, ToDoFacts, facts}
-use Rattle.records.specs.Encoding.{dateBytes, stateByte, checkOffBit, checkOffBytes, tailBytes, fromStart, fixedBytes, typeOf}
+use Rattle.records.specs.Encoding.{dateBytes, checkOffBit, checkOffBytes, tailBytes, fromStart, fixedBytes, typeOf}
 
 pub type-range : (r : Record) → Within 1 (typeOf r) 6
 unfolding typeOf
@@ -78,8 +78,8 @@ start-back m rest h = λ i. record { 0 = word-high-be16 (m .0) rest h i }
 end-back : (m : Minute) (rest : List ℕ) → m .0 < 65536 → minuteAt (le16 (m .0) ++ rest) 0 ≡ m
 end-back m rest h = λ i. record { 0 = word-le16 (m .0) rest h i }
 
-state-back : (b : Bool) (rest : List ℕ) → bit0 (stateByte b ∷ rest) ≡ b
-unfolding stateByte ifB
+state-back : (b : Bool) (rest : List ℕ) → bit0 (bit b ∷ rest) ≡ b
+unfolding bit ifB
 state-back true rest = refl
 state-back false rest = refl
 
@@ -93,7 +93,7 @@ dated-back d f t n rest =
     let e4 = end-back (d .end) [] (omega arith) in
     λ i. record { alarm = e1 i; date = e2 i; start = e3 i; end = e4 i; lead = d .lead }
 
-repeat-back : (r : Repeat) → RepeatFacts r → (a t n : ℕ) (rest : List ℕ) → repeatOf (stateByte (r .alarm) ∷ (a ∷ (fromStart r t n ++ rest))) 2 ≡ r
+repeat-back : (r : Repeat) → RepeatFacts r → (a t n : ℕ) (rest : List ℕ) → repeatOf (bit (r .alarm) ∷ (a ∷ (fromStart r t n ++ rest))) 2 ≡ r
 unfolding repeatOf fromStart tailBytes dateBytes le16 be16
 repeat-back r f a t n rest =
     let e1 = state-back (r .alarm) [] in
@@ -109,21 +109,21 @@ module _ (a : ℕ) (s : Date) (t n : ℕ) (rest : List ℕ) where
   toDo b c = fixedBytes (Record.ToDo (record { «carry_forward» = b; priority = a; start = s; «check_off» = c })) t n ++ rest
 
   carry-back : (b : Bool) (c : CheckOff) → bit0 (toDo b c) ≡ b
-  unfolding fixedBytes stateByte checkOffBit ifB
+  unfolding fixedBytes bit checkOffBit ifB
   carry-back true CheckOff.NotCheckedOff = refl
   carry-back true (CheckOff.On d) = refl
   carry-back false CheckOff.NotCheckedOff = refl
   carry-back false (CheckOff.On d) = refl
 
   check-back : (b : Bool) (c : CheckOff) → checkOffOk c ≡ true → checkOffOf (toDo b c) ≡ c
-  unfolding checkOffOf checkOffOk fixedBytes dateBytes stateByte checkOffBit checkOffBytes ifB
+  unfolding checkOffOf checkOffOk fixedBytes dateBytes bit checkOffBit checkOffBytes ifB
   check-back true CheckOff.NotCheckedOff h = refl
   check-back true (CheckOff.On d) h = ap CheckOff.On (date-back d [] (omega (arith, valid-facts h)))
   check-back false CheckOff.NotCheckedOff h = refl
   check-back false (CheckOff.On d) h = ap CheckOff.On (date-back d [] (omega (arith, valid-facts h)))
 
   clean-back : (b : Bool) (c : CheckOff) → checkOffClean (toDo b c) ≡ true
-  unfolding checkOffClean threeZeros fixedBytes dateBytes stateByte checkOffBit checkOffBytes ifB ifEq
+  unfolding checkOffClean threeZeros fixedBytes dateBytes bit checkOffBit checkOffBytes ifB ifEq
   clean-back true CheckOff.NotCheckedOff = refl
   clean-back true (CheckOff.On d) = refl
   clean-back false CheckOff.NotCheckedOff = refl

@@ -11,7 +11,7 @@ use Rattle.prelude.specs.Choice.{is-lt, is-ge, eq-elim, lt-elim, lt-skip, b-tak
 use Rattle.records.specs.Fields.{recordOf, fixedOf, textLength, noteLength, textOf, noteOf}
 use Rattle.records.specs.Ranges.{recordOk}
 use Rattle.records.specs.RangeLaws.{Within, fields-record}
-use Rattle.records.specs.Notes.{noZero, noteOk}
+use Rattle.notes.specs.Notes.{noZero, noteOk}
 use Rattle.records.specs.Bodies.{lengthsFit, lengthsOk, fieldsOk, textsOk, judgeBody}
 
 pub fixed-range : (t : ℕ) → Within 11 (fixedOf t) 17

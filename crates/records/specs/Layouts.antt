@@ -5,7 +5,7 @@ use mathlib.Core.Path.{_≡_, refl}
 use mathlib.Core.Bool.{true, false}
 use mathlib.Core.List.{List, [], _∷_, _++_}
 use Rattle.prelude.specs.Choice.{ifLt, ifEq, ifB}
-use Rattle.prelude.specs.Bytes.{le16, be16}
+use Rattle.prelude.specs.Bytes.{bit, le16, be16}
 use Rattle.days.specs.Dates.{leap, monthLength, real, before}
 use Rattle.days.specs.declared.types.Date.{Date}
 use Rattle.days.specs.declared.types.Minute.{Minute}
@@ -13,9 +13,9 @@ use Rattle.records.specs.declared.types.CheckOff.{CheckOff}
 use Rattle.records.specs.declared.types.Record.{Record}
 use Rattle.records.specs.Fields.{datedOf, repeatOf, weeklyOf, monthlyByDateOf, monthlyByPositionOf, yearlyOf, toDoOf, checkOffOf, recordOf, fixedOf, textOf, noteOf}
 use Rattle.records.specs.Ranges.{timesOk, between, datedOk, repeatOk, weeklyOk, monthlyByDateOk, monthlyByPositionOk, yearlyOk, checkOffOk, toDoOk, threeZeros, checkOffClean}
-use Rattle.records.specs.Notes.{noZero, linesOf, shortLines, noteOk}
+use Rattle.notes.specs.Notes.{noZero, linesOf, shortLines, noteOk}
 use Rattle.records.specs.Bodies.{lengthsFit, lengthsOk, fieldsOk, textsOk, judgeBody}
-use Rattle.records.specs.Encoding.{dateBytes, stateByte, checkOffBit, checkOffBytes, tailBytes, fromStart, fixedBytes, typeOf, bodyBytes, encode}
+use Rattle.records.specs.Encoding.{dateBytes, checkOffBit, checkOffBytes, tailBytes, fromStart, fixedBytes, typeOf, bodyBytes, encode}
 
 abbrev date : ℕ → ℕ → ℕ → Date
 date y m d = record { year = y; month = m; day = d }
@@ -44,7 +44,7 @@ abbrev pub datedRecord : Record
 datedRecord = Record.Dated (record { alarm = false; date = date 1980 12 31; start = minute 300; end = minute 1439; lead = 30 })
 
 pub dated-layout : Layout 1 dated (0x2A ∷ []) datedRecord (0x48 ∷ 0x69 ∷ []) (0x61 ∷ 0x00 ∷ 0x62 ∷ [])
-unfolding judgeBody lengthsOk lengthsFit fieldsOk textsOk datedOk timesOk real monthLength leap noZero noteOk linesOf shortLines recordOf datedOf fixedOf typeOf bodyBytes fixedBytes dateBytes stateByte le16 be16 ifLt ifEq ifB
+unfolding judgeBody lengthsOk lengthsFit fieldsOk textsOk datedOk timesOk real monthLength leap noZero noteOk linesOf shortLines recordOf datedOf fixedOf typeOf bodyBytes fixedBytes dateBytes bit le16 be16 ifLt ifEq ifB
 dated-layout = (refl, refl, refl, refl, refl, refl)
 
 -- Type 2, "Weekly Data Record": Tuesdays from 16 March to 28 December 1993, 10:00 to 11:00, "Gym!".
@@ -64,7 +64,7 @@ weeklyRecord =
     })
 
 pub weekly-layout : Layout 2 weekly [] weeklyRecord (0x47 ∷ 0x79 ∷ 0x6D ∷ 0x21 ∷ []) []
-unfolding judgeBody lengthsOk lengthsFit fieldsOk textsOk weeklyOk repeatOk between timesOk before real monthLength leap noZero noteOk linesOf shortLines recordOf weeklyOf repeatOf fixedOf typeOf bodyBytes fixedBytes fromStart tailBytes dateBytes stateByte le16 be16 ifLt ifEq ifB
+unfolding judgeBody lengthsOk lengthsFit fieldsOk textsOk weeklyOk repeatOk between timesOk before real monthLength leap noZero noteOk linesOf shortLines recordOf weeklyOf repeatOf fixedOf typeOf bodyBytes fixedBytes fromStart tailBytes dateBytes bit le16 be16 ifLt ifEq ifB
 weekly-layout = (refl, refl, refl, refl, refl, refl)
 
 -- Type 3, "Monthly by Date Data Record": each 31st from 30 January 1992 to 31 December 2099 at 23:59, no text, note "rent".
@@ -84,7 +84,7 @@ monthlyByDateRecord =
     })
 
 pub monthly-by-date-layout : Layout 3 monthlyByDate (0x00 ∷ []) monthlyByDateRecord [] (0x72 ∷ 0x65 ∷ 0x6E ∷ 0x74 ∷ 0x00 ∷ [])
-unfolding judgeBody lengthsOk lengthsFit fieldsOk textsOk monthlyByDateOk repeatOk between timesOk before real monthLength leap noZero noteOk linesOf shortLines recordOf monthlyByDateOf repeatOf fixedOf typeOf bodyBytes fixedBytes fromStart tailBytes dateBytes stateByte le16 be16 ifLt ifEq ifB
+unfolding judgeBody lengthsOk lengthsFit fieldsOk textsOk monthlyByDateOk repeatOk between timesOk before real monthLength leap noZero noteOk linesOf shortLines recordOf monthlyByDateOf repeatOf fixedOf typeOf bodyBytes fixedBytes fromStart tailBytes dateBytes bit le16 be16 ifLt ifEq ifB
 monthly-by-date-layout = (refl, refl, refl, refl, refl, refl)
 
 -- Type 4, "Monthly by Position Data Record": each fifth Monday from 1 March 1993 to 31 May 1994, 8:00 to 9:00, "Tea", note "x".
@@ -105,7 +105,7 @@ monthlyByPositionRecord =
     })
 
 pub monthly-by-position-layout : Layout 4 monthlyByPosition [] monthlyByPositionRecord (0x54 ∷ 0x65 ∷ 0x61 ∷ []) (0x78 ∷ [])
-unfolding judgeBody lengthsOk lengthsFit fieldsOk textsOk monthlyByPositionOk repeatOk between timesOk before real monthLength leap noZero noteOk linesOf shortLines recordOf monthlyByPositionOf repeatOf fixedOf typeOf bodyBytes fixedBytes fromStart tailBytes dateBytes stateByte le16 be16 ifLt ifEq ifB
+unfolding judgeBody lengthsOk lengthsFit fieldsOk textsOk monthlyByPositionOk repeatOk between timesOk before real monthLength leap noZero noteOk linesOf shortLines recordOf monthlyByPositionOf repeatOf fixedOf typeOf bodyBytes fixedBytes fromStart tailBytes dateBytes bit le16 be16 ifLt ifEq ifB
 monthly-by-position-layout = (refl, refl, refl, refl, refl, refl)
 
 -- Type 5, "Yearly Data Record": 29 February from 31 January 1992 to 29 February 2000, 0:07 to 0:08, "Annie".
@@ -126,7 +126,7 @@ yearlyRecord =
     })
 
 pub yearly-layout : Layout 5 yearly (0xFF ∷ []) yearlyRecord (0x41 ∷ 0x6E ∷ 0x6E ∷ 0x69 ∷ 0x65 ∷ []) []
-unfolding judgeBody lengthsOk lengthsFit fieldsOk textsOk yearlyOk repeatOk between timesOk before real monthLength leap noZero noteOk linesOf shortLines recordOf yearlyOf repeatOf fixedOf typeOf bodyBytes fixedBytes fromStart tailBytes dateBytes stateByte le16 be16 ifLt ifEq ifB
+unfolding judgeBody lengthsOk lengthsFit fieldsOk textsOk yearlyOk repeatOk between timesOk before real monthLength leap noZero noteOk linesOf shortLines recordOf yearlyOf repeatOf fixedOf typeOf bodyBytes fixedBytes fromStart tailBytes dateBytes bit le16 be16 ifLt ifEq ifB
 yearly-layout = (refl, refl, refl, refl, refl, refl)
 
 -- Type 6, "To Do Data Record": carried forward, priority 9, from 15 March 1993, checked off on 2 April, "Call", note "m".
@@ -143,14 +143,14 @@ toDoRecord =
     Record.ToDo (record { «carry_forward» = true; priority = 9; start = date 1993 3 15; «check_off» = CheckOff.On (date 1993 4 2) })
 
 pub to-do-layout : Layout 6 toDo (0x07 ∷ []) toDoRecord (0x43 ∷ 0x61 ∷ 0x6C ∷ 0x6C ∷ []) (0x6D ∷ [])
-unfolding judgeBody lengthsOk lengthsFit fieldsOk textsOk toDoOk checkOffOk checkOffClean threeZeros between real monthLength leap noZero noteOk linesOf shortLines recordOf toDoOf checkOffOf fixedOf typeOf bodyBytes fixedBytes checkOffBit checkOffBytes dateBytes stateByte le16 be16 ifLt ifEq ifB
+unfolding judgeBody lengthsOk lengthsFit fieldsOk textsOk toDoOk checkOffOk checkOffClean threeZeros between real monthLength leap noZero noteOk linesOf shortLines recordOf toDoOf checkOffOf fixedOf typeOf bodyBytes fixedBytes checkOffBit checkOffBytes dateBytes bit le16 be16 ifLt ifEq ifB
 to-do-layout = (refl, refl, refl, refl, refl, refl)
 
 -- the same, neither carried forward nor checked off, without text and note
 pub to-do-left-layout :
     Layout 6 (0x00 ∷ 0x01 ∷ 0x5D ∷ 0x03 ∷ 0x0F ∷ 0x00 ∷ 0x00 ∷ 0x00 ∷ 0x00 ∷ 0x00 ∷ 0x00 ∷ []) []
     (Record.ToDo (record { «carry_forward» = false; priority = 1; start = date 1993 3 15; «check_off» = CheckOff.NotCheckedOff })) [] []
-unfolding judgeBody lengthsOk lengthsFit fieldsOk textsOk toDoOk checkOffOk checkOffClean threeZeros between real monthLength leap noZero noteOk linesOf shortLines recordOf toDoOf checkOffOf fixedOf typeOf bodyBytes fixedBytes checkOffBit checkOffBytes dateBytes stateByte le16 be16 ifLt ifEq ifB
+unfolding judgeBody lengthsOk lengthsFit fieldsOk textsOk toDoOk checkOffOk checkOffClean threeZeros between real monthLength leap noZero noteOk linesOf shortLines recordOf toDoOf checkOffOf fixedOf typeOf bodyBytes fixedBytes checkOffBit checkOffBytes dateBytes bit le16 be16 ifLt ifEq ifB
 to-do-left-layout = (refl, refl, refl, refl, refl, refl)
 
 -- Document 01, "One whole case": 01 0F 00 / s 5D 03 0F 02 58 94 02 05 03 00 00 44 65 70 with s = 01.
@@ -162,11 +162,11 @@ abbrev pub caseRecord : Record
 caseRecord = Record.Dated (record { alarm = true; date = date 1993 3 15; start = minute 600; end = minute 660; lead = 5 })
 
 pub case-layout : Layout 1 (caseBody 0x01) [] caseRecord (0x44 ∷ 0x65 ∷ 0x70 ∷ []) []
-unfolding judgeBody lengthsOk lengthsFit fieldsOk textsOk datedOk timesOk real monthLength leap noZero noteOk linesOf shortLines recordOf datedOf fixedOf typeOf bodyBytes fixedBytes dateBytes stateByte le16 be16 ifLt ifEq ifB
+unfolding judgeBody lengthsOk lengthsFit fieldsOk textsOk datedOk timesOk real monthLength leap noZero noteOk linesOf shortLines recordOf datedOf fixedOf typeOf bodyBytes fixedBytes dateBytes bit le16 be16 ifLt ifEq ifB
 case-layout = (refl, refl, refl, refl, refl, refl)
 
 pub case-encoded : encode caseRecord (0x44 ∷ 0x65 ∷ 0x70 ∷ []) [] ≡ 0x01 ∷ 0x0F ∷ 0x00 ∷ caseBody 0x01
-unfolding encode bodyBytes fixedBytes typeOf dateBytes stateByte le16 be16 ifB
+unfolding encode bodyBytes fixedBytes typeOf dateBytes bit le16 be16 ifB
 case-encoded = refl
 
 -- "other bits are ignored when read"

@@ -1,23 +1,19 @@
 // The judgement of a record's body, that stretch of the file and nothing beyond it: 6, 7, 8, in this order.
 ghost use mathlib.Core.Path.{_≡_};
-ghost use Prim.Native.Nat.{_+_, _≤_, _<_};
+ghost use Prim.Native.Nat.{_+_, _≤_};
 ghost use lib.ListN.{length};
 ghost use mathlib.Core.Bool.{false};
 ghost use Rattle.prelude.specs.Choice.{ifB};
 ghost use Rattle.prelude.specs.Bytes.{part};
-ghost use Rattle.records.specs.Notes.{noZero, noteOk};
+ghost use Rattle.notes.specs.Notes.{noZero, noteOk};
 ghost use Rattle.records.specs.Bodies.{fieldsOk, judgeBody};
 use crate::fields::dated_of;
 use crate::fields::fixed_of;
 use crate::fields::monthly_by_date_of;
 use crate::fields::monthly_by_position_of;
-use crate::fields::note_length;
-use crate::fields::text_length;
 use crate::fields::to_do_of;
 use crate::fields::weekly_of;
 use crate::fields::yearly_of;
-use crate::notes::no_zero;
-use crate::notes::note_ok;
 use crate::ranges::check_off_clean;
 use crate::ranges::dated_ok;
 use crate::ranges::monthly_by_date_ok;
@@ -25,17 +21,13 @@ use crate::ranges::monthly_by_position_ok;
 use crate::ranges::to_do_ok;
 use crate::ranges::weekly_ok;
 use crate::ranges::yearly_ok;
+use notes::rules::no_zero;
+use notes::rules::note_ok;
+use prelude::numbers::wide_size;
 use prelude::refusals::BAD_FIELD;
 use prelude::refusals::BAD_LENGTH;
 use prelude::refusals::BAD_TEXT;
 use prelude::slices::word_in;
-
-// A byte as a wider number.
-fn wide(b: u8) -> usize
-    ensures { λ r. ⌜ (r ≡ b) × (r < 256) ⌝ }
-{
-    b as usize
-}
 
 fn fields_ok(t: u8, p: &[u8]) -> bool
     ensures { λ r. ⌜ r ≡ fieldsOk t (now (p .entry)) ⌝ }
@@ -83,7 +75,7 @@ pub fn judge_body(t: u8, p: &[u8]) -> u32
     if p.len() < fixed {
         return BAD_LENGTH;
     }
-    let text = wide(p[fixed - 3]);
+    let text = wide_size(p[fixed - 3]);
     let note = word_in(p, fixed - 2) as usize;
     if 27 < text {
         return BAD_LENGTH;

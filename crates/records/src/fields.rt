@@ -1,7 +1,7 @@
 // The fields of a record's body, gathered without judging them: bytes past the body's end count as 0.
 ghost use mathlib.Core.Path.{_≡_};
 ghost use Prim.Native.Nat.{_≤_};
-ghost use Rattle.records.specs.Fields.{dateAt, bit0, bit1, datedOf, repeatOf, weeklyOf, monthlyByDateOf, monthlyByPositionOf, yearlyOf, checkOffOf, toDoOf, recordOf, fixedOf, textLength, noteLength};
+ghost use Rattle.records.specs.Fields.{dateAt, bit0, bit1, datedOf, repeatOf, weeklyOf, monthlyByDateOf, monthlyByPositionOf, yearlyOf, checkOffOf, toDoOf, recordOf, fixedOf, textLength};
 use crate::types::CheckOff;
 use crate::types::Dated;
 use crate::types::MonthlyByDate;
@@ -13,16 +13,10 @@ use crate::types::Weekly;
 use crate::types::Yearly;
 use days::types::Date;
 use days::types::Minute;
+use prelude::numbers::wide;
 use prelude::slices::byte;
 use prelude::slices::word;
 use prelude::slices::word_high;
-
-// A byte as a wider number.
-fn wide(b: u8) -> u16
-    ensures { λ r. ⌜ r ≡ b ⌝ }
-{
-    b as u16
-}
 
 fn date_at(p: &[u8], i: usize) -> Date
     requires { ⌜ i ≤ 16 ⌝ }
@@ -200,11 +194,4 @@ pub fn text_length(t: u8, p: &[u8]) -> u16
 {
     let fixed = fixed_of(t);
     wide(byte(p, fixed - 3))
-}
-
-pub fn note_length(t: u8, p: &[u8]) -> u16
-    ensures { λ r. ⌜ r ≡ noteLength t (now (p .entry)) ⌝ }
-{
-    let fixed = fixed_of(t);
-    word(p, fixed - 2)
 }

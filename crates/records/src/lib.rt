@@ -1,7 +1,5 @@
-// The six kinds of records of a 95LX book: their fields in a record's body, the ranges, the rules of text and note, and
-// the judgement of a body.
+// The six kinds of records of a 95LX book: their fields in a record's body, the ranges, and the judgement of a body.
 pub mod bodies;
 pub mod fields;
-pub mod notes;
 pub mod ranges;
 pub mod types;

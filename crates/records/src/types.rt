@@ -68,9 +68,3 @@ pub enum Record {
     Yearly(Yearly),
     ToDo(ToDo),
 }
-
-// A stretch of bytes: where it begins, and how many they are.
-pub struct Stretch {
-    pub place: usize,
-    pub length: usize,
-}

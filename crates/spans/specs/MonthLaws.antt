@@ -1,7 +1,7 @@
 -- The days after a day: within its month only the day of the month grows, and codes of dates rise.
 -- Assumes nothing.
 use Prim.Native.Nat.{ℕ, zero, suc, _+_, _-_, _%_, _<_, _≤_}
-use mathlib.Core.Path.{_≡_, refl, sym, _∙_, ap}
+use mathlib.Core.Path.{_≡_, sym, _∙_, ap}
 use native.Mathlib.Omega.{arith}
 use native.Mathlib.Nat.{add-zero, add-suc}
 use Rattle.prelude.specs.Choice.{is-lt, lt-elim}
@@ -9,7 +9,7 @@ use Rattle.days.specs.Dates.{monthLength}
 use Rattle.days.specs.Days.{lastDay, dateOf, nextDate}
 use Rattle.days.specs.Facts.{factsOf}
 use Rattle.days.specs.DateLaws.{Valid, length-bounds}
-use Rattle.days.specs.DayLaws.{valid-date, weekday-formula}
+use Rattle.days.specs.DayLaws.{valid-date, date-suc, weekday-formula}
 use Rattle.days.specs.declared.types.Date.{Date}
 use Rattle.days.specs.declared.types.DayFacts.{DayFacts}
 use Rattle.spans.specs.Codes.{dateCode}
@@ -21,10 +21,6 @@ later i d = record { year = d .year; month = d .month; day = d .day + i }
 next-later : (d : Date) (i : ℕ) → d .day + i < monthLength (d .year) (d .month) → nextDate (later i d) ≡ later (suc i) d
 unfolding nextDate
 next-later d i h = is-lt h _ _ ∙ let e : d .day + i + 1 ≡ d .day + suc i = omega arith in rw e
-
-date-suc : (n : ℕ) → dateOf (suc n) ≡ nextDate (dateOf n)
-unfolding dateOf
-date-suc n = refl
 
 same : (d : Date) → d ≡ later 0 d
 same d = let e : d .day ≡ d .day + 0 = omega arith in λ i. record { year = d .year; month = d .month; day = e i }

@@ -24,7 +24,8 @@ pub record Reaches (f : DayFacts) (code : ℕ) (g : DayFacts) : Type 0 where
   pub low : f .day .0 ≤ g .day .0
   pub before : (d : ℕ) → f .day .0 ≤ d → d < g .day .0 → dateCode (factsOf d .date) < code
 
-day-at : (n : ℕ) → factsOf n .day .0 ≡ n
+-- the day of a day's facts
+pub day-at : (n : ℕ) → factsOf n .day .0 ≡ n
 unfolding factsOf
 day-at n = refl
 

@@ -7,15 +7,7 @@ ghost use Rattle.spans.specs.Codes.{dayIn, weekdayIn};
 ghost use Rattle.spans.specs.Rules.{missingShows, dayShows, onDate, inDates, ruleShows};
 use crate::types::Rule;
 use falls::types::ShortMonth;
-
-fn is_same(a: u32, b: u32) -> bool
-    ensures { λ r. ⌜ r ≡ ifEq a b true false ⌝ }
-{
-    if a == b {
-        return true;
-    }
-    false
-}
+use prelude::numbers::is_same_wide;
 
 // Where the month is too short for the day asked for.
 fn missing_shows(c: ShortMonth, p: u32) -> bool
@@ -23,7 +15,7 @@ fn missing_shows(c: ShortMonth, p: u32) -> bool
 {
     match c {
         ShortMonth::Skip => false,
-        ShortMonth::Last => is_same(p / 256 % 32, p % 32),
+        ShortMonth::Last => is_same_wide(p / 256 % 32, p % 32),
     }
 }
 
@@ -33,14 +25,14 @@ fn day_shows(c: ShortMonth, p: u32, day: u32) -> bool
     if p % 32 < day {
         return missing_shows(c, p);
     }
-    is_same(p / 256 % 32, day)
+    is_same_wide(p / 256 % 32, day)
 }
 
 fn position_shows(r: Rule, p: u32) -> bool
     ensures { λ z. ⌜ z ≡ ifEq (weekdayIn p) (r .a) (ifEq ((dayIn p + 6) / 7) (r .b) true false) false ⌝ }
 {
     if p / 32 % 8 == r.a {
-        return is_same((p / 256 % 32 + 6) / 7, r.b);
+        return is_same_wide((p / 256 % 32 + 6) / 7, r.b);
     }
     false
 }
@@ -49,7 +41,7 @@ fn on_date(c: ShortMonth, r: Rule, p: u32) -> bool
     ensures { λ z. ⌜ z ≡ onDate c r p ⌝ }
 {
     if r.kind == 2 {
-        return is_same(p / 32 % 8, r.a);
+        return is_same_wide(p / 32 % 8, r.a);
     }
     if r.kind == 1 {
         return true;

@@ -34,7 +34,14 @@ fn to_day(p: u32, day: u32) -> u32
 fn to_weekday(p: u32, weekday: u32) -> u32
     ensures { λ r. ⌜ r ≡ toWeekday p weekday ⌝ }
 {
-    (weekday % 7 + 14 - p / 32 % 8 - 1) % 7 + 1
+    let today = p / 32 % 8;
+    if today < weekday {
+        return (weekday - today - 1) % 7 + 1;
+    }
+    if weekday + 6 < today {
+        return 7;
+    }
+    weekday + 7 - today
 }
 
 fn to_date(p: u32, date: u32) -> u32

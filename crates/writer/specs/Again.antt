@@ -1,13 +1,18 @@
--- A book as it is read to be written again, document 01: its records with their texts and notes, and when it is plain.
+-- A book as it is read to be written again, document 01: its records with their texts and notes, when it is plain, and what it reads as.
 -- Assumes nothing.
-use Prim.Native.Nat.{ℕ, _+_}
+use Prim.Native.Nat.{ℕ, _+_, _<_}
 use mathlib.Core.Path.{_≡_}
 use mathlib.Core.Bool.{true}
 use mathlib.Core.List.{List, [], _∷_, map}
+use lib.ListN.{length, getD}
 use Rattle.records.specs.Fields.{recordOf, fixedOf, textLength, noteLength, textOf, noteOf}
-use Rattle.records.specs.AgainLaws.{plainState}
+use Rattle.records.specs.Encoding.{plainState}
 use Rattle.book.specs.Walk.{typeAt, lengthAt, bodyAt}
-use Rattle.book.specs.Books.{placesOf}
+use Rattle.book.specs.Books.{bookOf, placesOf, recordAnswer, textIn, noteIn}
+use Rattle.book.specs.declared.types.Settings.{Settings}
+use Rattle.book.specs.declared.types.BookAnswer.{BookAnswer}
+use Rattle.book.specs.declared.types.Entry.{Entry}
+use Rattle.book.specs.declared.types.RecordAnswer.{RecordAnswer}
 use Rattle.writer.specs.Runs.{Item}
 
 -- the record at a place, with its text and its note
@@ -36,3 +41,16 @@ Each P (at ∷ places) = P at × Each P places
 -- a book without padding and unnamed bits
 abbrev pub Plain : List ℕ → Type 0
 Plain f = Each (PlainAt f) (placesOf f)
+
+-- what is read at a number of a file is this item
+pub record Reads (f : List ℕ) (k : ℕ) (i : Item) : Type 0 where
+  pub entry : Entry
+  pub found : recordAnswer f k ≡ RecordAnswer.Record entry
+  pub «record» : entry .«record» ≡ i .kind
+  pub text : textIn f (recordAnswer f k) ≡ i .text
+  pub note : noteIn f (recordAnswer f k) ≡ i .note
+
+-- a file reads as a book with these settings and items; an item is named by its number, and the other argument of getD never counts
+pub record ReadsAs (f : List ℕ) (s : Settings) (is : List Item) : Type 0 where
+  pub book : bookOf f ≡ BookAnswer.Accepted (record { settings = s; records = length is })
+  pub items : (k : ℕ) (x : Item) → k < length is → Reads f k (getD is k x)

@@ -8,9 +8,9 @@ use Rattle.prelude.specs.Choice.{ifLt, ifEq, ifB}
 use Rattle.prelude.specs.Bytes.{bytes-append}
 use Rattle.records.specs.Fields.{datedOf, fixedOf}
 use Rattle.records.specs.Ranges.{timesOk, datedOk}
-use Rattle.records.specs.Notes.{noZero, linesOf, shortLines, noteOk}
+use Rattle.notes.specs.Notes.{noZero, linesOf, shortLines, noteOk}
 use Rattle.records.specs.Bodies.{lengthsFit, lengthsOk, fieldsOk, textsOk, judgeBody}
-use Rattle.records.specs.AgainLaws.{plainState}
+use Rattle.records.specs.Encoding.{plainState}
 use Rattle.days.specs.Dates.{leap, monthLength, real}
 use Rattle.book.specs.Walk.{judgeHead, judged, stepAt, walkF, walkFrom, walkOf, placesIn}
 use Rattle.book.specs.Books.{placesOf}

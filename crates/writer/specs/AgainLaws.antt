@@ -5,9 +5,8 @@ use mathlib.Core.Path.{_≡_, refl, sym, ap, _∙_}
 use mathlib.Core.List.{List, [], _∷_}
 use native.Mathlib.Omega.{arith}
 use lib.ListN.{length, getD, take, drop, length-map, List·getD-map}
-use lib.Seq.{take-take, drop-drop}
 use Rattle.prelude.specs.Choice.{is-lt}
-use Rattle.prelude.specs.Bytes.{part}
+use Rattle.prelude.specs.Bytes.{part, part-part}
 use Rattle.records.specs.Fields.{fixedOf, textLength, noteLength}
 use Rattle.records.specs.JudgeLaws.{Judged, judged}
 use Rattle.book.specs.Walk.{typeAt, lengthAt, bodyAt}
@@ -17,20 +16,8 @@ use Rattle.book.specs.BookLaws.{AcceptedBook, book-accepted}
 use Rattle.book.specs.EntryLaws.{record-there}
 use Rattle.book.specs.declared.types.Book.{Book}
 use Rattle.book.specs.declared.types.BookAnswer.{BookAnswer}
-use Rattle.book.specs.declared.types.Entry.{Entry}
 use Rattle.book.specs.declared.types.RecordAnswer.{RecordAnswer}
-use Rattle.writer.specs.Runs.{Item}
-use Rattle.writer.specs.Again.{itemAt, itemsOf}
-
--- a stretch of a stretch
-inner : (a n m : ℕ) (s : List ℕ) → a + n ≤ m → take n (drop a (take m s)) ≡ take n (drop a s)
-inner zero n m s h = take-take n m s (omega arith)
-inner (suc a) n zero s h = absurd (omega arith)
-inner (suc a) n (suc m) [] h = refl
-inner (suc a) n (suc m) (x ∷ s) h = inner a n m s (omega arith)
-
-part-part : (s : List ℕ) (p m a n : ℕ) → a + n ≤ m → part (part s p m) a n ≡ part s (p + a) n
-part-part s p m a n h = inner a n m (drop p s) h ∙ ap (take n) (drop-drop a p s)
+use Rattle.writer.specs.Again.{itemAt, itemsOf, Reads}
 
 length-take-most : (m : ℕ) (s : List ℕ) → length (take m s) ≤ m
 length-take-most zero s = omega arith
@@ -57,20 +44,12 @@ module _ (f : List ℕ) (at : ℕ) (r : RecordAt f at) where
       let e : at + 3 + (fixedOf (typeAt f at) + textLength (typeAt f at) (bodyAt f at)) ≡ at + 3 + fixedOf (typeAt f at) + textLength (typeAt f at) (bodyAt f at) = omega arith in
       sym (part-part f (at + 3) (lengthAt f at) (fixedOf (typeAt f at) + textLength (typeAt f at) (bodyAt f at)) (noteLength (typeAt f at) (bodyAt f at)) within ∙ ap (λ (p : ℕ). part f p (noteLength (typeAt f at) (bodyAt f at))) e)
 
--- the calls at a number, and an item
-pub record ReadAs (f : List ℕ) (k : ℕ) (i : Item) : Type 0 where
-  pub entry : Entry
-  pub answer : recordAnswer f k ≡ RecordAnswer.Record entry
-  pub kind : entry .«record» ≡ i .kind
-  pub text : textIn f (recordAnswer f k) ≡ i .text
-  pub note : noteIn f (recordAnswer f k) ≡ i .note
-
-item-read : (f : List ℕ) (k at : ℕ) → RecordAt f at → recordAnswer f k ≡ RecordAnswer.Record (entryAt f at) → ReadAs f k (itemAt f at)
+item-read : (f : List ℕ) (k at : ℕ) → RecordAt f at → recordAnswer f k ≡ RecordAnswer.Record (entryAt f at) → Reads f k (itemAt f at)
 item-read f k at r e =
     record {
       entry = entryAt f at;
-      answer = e;
-      kind = item-kind f at;
+      found = e;
+      «record» = item-kind f at;
       text = ap (textIn f) e ∙ item-text f at r;
       note = ap (noteIn f) e ∙ item-note f at r;
     }
@@ -84,7 +63,7 @@ module _ (f : List ℕ) {b : Book} (h : bookOf f ≡ BookAnswer.Accepted b) wher
   unfolding recordAnswer recordFrom
   answered k l = ap (recordFrom f k) h ∙ is-lt l _ _
 
-  pub items-read : (k : ℕ) → k < b .records → ReadAs f k (getD (itemsOf f) k (itemAt f 0))
+  pub items-read : (k : ℕ) → k < b .records → Reads f k (getD (itemsOf f) k (itemAt f 0))
   unfolding itemsOf
   items-read k l =
       let a : AcceptedBook f b = book-accepted f h in

@@ -3,7 +3,7 @@
 use Prim.Native.Nat.{ℕ, zero, suc, _+_, _≤_}
 use mathlib.Core.Path.{_≡_, refl, _∙_}
 use mathlib.Core.Bool.{true, false, false≢true}
-use mathlib.Core.List.{List, [], _∷_}
+use mathlib.Core.List.{List}
 use native.Mathlib.Omega.{arith}
 use lib.ListN.{length}
 use lib.Dec.{eqb·suc-zero}
@@ -12,33 +12,18 @@ use Rattle.prelude.specs.Bytes.{le16}
 use Rattle.prelude.specs.Splice.{splice}
 use Rattle.prelude.specs.declared.refusals.Refusal.{Refusal}
 use Rattle.records.specs.Ranges.{recordOk}
-use Rattle.records.specs.Notes.{noZero, noteOk}
+use Rattle.notes.specs.Notes.{noZero, noteOk}
 use Rattle.records.specs.Encoding.{encode}
 use Rattle.book.specs.Settings.{settingsInRange}
 use Rattle.book.specs.declared.types.Settings.{Settings}
 use Rattle.writer.specs.Writing.{gives, leaves, openBytes, openRefusal, roomRefusal, stateOpen, addRefusal, closeRefusal}
-use Rattle.writer.specs.Runs.{Item, Run, done, refused, after}
+use Rattle.writer.specs.Runs.{Item, Run, done, refused, after, Fine, opened}
 use Rattle.writer.specs.declared.types.Writer.{Writer}
-
--- an item without a fault
-pub record Fine (i : Item) : Type 0 where
-  pub short : length (i .text) ≤ 27
-  pub ranged : recordOk (i .kind) ≡ true
-  pub clean : noZero (i .text) ≡ true
-  pub ruled : noteOk (i .note) ≡ true
-
-abbrev pub Items : List Item → Type 0
-Items [] = Unit {0}
-Items (i ∷ is) = Fine i × Items is
 
 -- room for the bytes up to an end and for the end record
 pub record Room (size end : ℕ) : Type 0 where
   pub buffer : end + 3 ≤ size
   pub book : end + 3 ≤ 65535
-
--- the state of a book that is being written, so many bytes used
-abbrev pub opened : ℕ → Writer
-opened n = record { used = n; closed = false }
 
 pub length-open : (s : Settings) → length (openBytes s) ≡ 12
 unfolding openBytes le16

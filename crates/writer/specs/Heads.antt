@@ -6,10 +6,10 @@ use mathlib.Core.Bool.{true}
 use mathlib.Core.List.{List, _∷_, _++_}
 use native.Mathlib.Omega.{arith}
 use lib.ListN.{length}
-use Rattle.prelude.specs.Bytes.{le16}
+use Rattle.prelude.specs.Bytes.{bit, le16}
 use Rattle.prelude.specs.Splice.{splice}
 use Rattle.records.specs.Fields.{fixedOf}
-use Rattle.records.specs.Encoding.{dateBytes, stateByte, checkOffBit, checkOffBytes, fromStart, fixedBytes, typeOf, bodyBytes, encode}
+use Rattle.records.specs.Encoding.{dateBytes, checkOffBit, checkOffBytes, fromStart, fixedBytes, typeOf, bodyBytes, encode}
 use Rattle.records.specs.Ranges.{checkOffOk}
 use Rattle.records.specs.RangeLaws.{ThreeBytes, three-bytes, Within, DatedFacts, RepeatFacts, ToDoFacts}
 use Rattle.records.specs.BodyLaws.{length-body}
@@ -39,11 +39,11 @@ encode-head r text note =
 
 -- types 2 and 3: one number, then from the start minute on
 abbrev pub shortHead : ℕ → ℕ → Repeat → ℕ → ℕ → List ℕ
-shortHead kind a r t n = kind ∷ (le16 (16 + t + n) ++ (stateByte (r .alarm) ∷ (a ∷ fromStart r t n)))
+shortHead kind a r t n = kind ∷ (le16 (16 + t + n) ++ (bit (r .alarm) ∷ (a ∷ fromStart r t n)))
 
 -- types 4 and 5: two numbers
 abbrev pub longHead : ℕ → ℕ → ℕ → Repeat → ℕ → ℕ → List ℕ
-longHead kind a b r t n = kind ∷ (le16 (17 + t + n) ++ (stateByte (r .alarm) ∷ (a ∷ (b ∷ fromStart r t n))))
+longHead kind a b r t n = kind ∷ (le16 (17 + t + n) ++ (bit (r .alarm) ∷ (a ∷ (b ∷ fromStart r t n))))
 
 -- what fits into bytes, kind by kind
 pub record DatedFit (d : Dated) : Type 0 where
@@ -86,8 +86,8 @@ day-fit m d w x = let b : Month m (monthLength 2000 m) = length-bounds 2000 m (w
 
 -- type 6: the check-off's bit and its three bytes
 abbrev pub toDoHead : ToDo → ℕ → ℕ → ℕ → ℕ → ℕ → ℕ → List ℕ
-toDoHead d bit y m day t n =
-    6 ∷ (le16 (11 + t + n) ++ ((stateByte (d .«carry_forward») + bit) ∷ (d .priority ∷ (dateBytes (d .start) ++ (y ∷ (m ∷ (day ∷ (t ∷ le16 n))))))))
+toDoHead d mark y m day t n =
+    6 ∷ (le16 (11 + t + n) ++ ((bit (d .«carry_forward») + mark) ∷ (d .priority ∷ (dateBytes (d .start) ++ (y ∷ (m ∷ (day ∷ (t ∷ le16 n))))))))
 
 pub to-do-not : (d : ToDo) (t n : ℕ) → d .«check_off» ≡ CheckOff.NotCheckedOff → toDoHead d 0 0 0 0 t n ≡ headBytes (Record.ToDo d) t n
 unfolding headBytes typeOf fixedOf ifEq fixedBytes checkOffBit checkOffBytes

@@ -20,9 +20,7 @@ use Rattle.book.specs.Books.{entryAt}
 use Rattle.book.specs.declared.types.StepAnswer.{StepAnswer}
 use Rattle.book.specs.declared.types.Entry.{Entry}
 use Rattle.writer.specs.Writing.{endBytes}
-use Rattle.writer.specs.Runs.{Item}
-use Rattle.writer.specs.CallLaws.{Fine}
-use Rattle.writer.specs.RunLaws.{itemBytes}
+use Rattle.writer.specs.Runs.{Item, Fine, itemBytes}
 
 -- an item's bytes after the three head bytes
 abbrev pub itemBody : Item → List ℕ

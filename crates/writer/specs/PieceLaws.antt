@@ -1,38 +1,23 @@
 -- A file piece by piece: its first twelve bytes, a record's bytes and the end record, each as it is written.
 -- Assumes nothing.
-use Prim.Native.Nat.{ℕ, zero, suc, _+_, _≤_, _<_}
-use mathlib.Core.Path.{_≡_, refl, sym, ap, _∙_}
+use Prim.Native.Nat.{ℕ, zero, suc, _+_, _≤_}
+use mathlib.Core.Path.{_≡_, refl, sym, _∙_}
 use mathlib.Core.Bool.{true, false≢true}
 use mathlib.Core.List.{List, [], _∷_, _++_}
 use native.Mathlib.Omega.{arith}
-use native.Mathlib.Numerals.{add-one}
 use lib.Dec.{eqb}
 use lib.ListN.{length, take, drop, take-append-drop, length-drop, drop-of-length-le}
-use lib.Seq.{drop-cons, drop-drop, length-take-le}
+use lib.Seq.{drop-drop, length-take-le}
 use Rattle.prelude.specs.Choice.{ifB, is-eq, eq-elim, lt-skip, eq-take, b-take}
-use Rattle.prelude.specs.Bytes.{byte, word, le16, Bytes, le16-join, bytes-at}
-use Rattle.prelude.specs.declared.refusals.Refusal.{Refusal}
-use Rattle.records.specs.Encoding.{stateByte, encode}
+use Rattle.prelude.specs.Bytes.{bytesFrom, drop-places, bit, byte, word, le16, Bytes, le16-join, bytes-at}
+use Rattle.records.specs.Encoding.{encode}
 use Rattle.records.specs.AgainLaws.{encode-again}
 use Rattle.book.specs.Settings.{sameBytes, identified, settingsInRange, settingsOf, flagsOk, settingsOk}
 use Rattle.book.specs.Walk.{typeAt, lengthAt, bodyAt, nextPlace, judgeHead, judged, stepAt}
-use Rattle.book.specs.WalkLaws.{RecordAt}
+use Rattle.book.specs.WalkLaws.{RecordAt, no-end, record-no-end}
 use Rattle.book.specs.declared.types.StepAnswer.{StepAnswer}
 use Rattle.writer.specs.Writing.{openBytes, endBytes}
 use Rattle.writer.specs.Again.{itemAt, PlainAt}
-
--- the k bytes from i on, by place
-abbrev bytesFrom : ℕ → ℕ → List ℕ → List ℕ
-bytesFrom i zero f = []
-bytesFrom i (suc k) f = byte f i ∷ bytesFrom (i + 1) k f
-
-from-places : (i k : ℕ) (f : List ℕ) → i + k ≤ length f → drop i f ≡ bytesFrom i k f ++ drop (i + k) f
-from-places i zero f h = let e : i + 0 ≡ i = omega arith in rw e
-from-places i (suc k) f h =
-    let l : i < length f = omega arith in
-    let e : i + 1 + k ≡ i + suc k = omega arith in
-    let r : drop (i + 1) f ≡ bytesFrom (i + 1) k f ++ drop (i + 1 + k) f = from-places (i + 1) k f (omega arith) in
-    drop-cons f i 0 l ∙ ap (λ (s : List ℕ). byte f i ∷ s) (rw (← add-one i) (rw e at r))
 
 bytes-drop : (k : ℕ) (s : List ℕ) → Bytes s → Bytes (drop k s)
 bytes-drop zero s b = b
@@ -47,8 +32,8 @@ bytes-take (suc k) (x ∷ s) b = (b .0, bytes-take k s (b .1))
 word-again : (f : List ℕ) → Bytes f → (i : ℕ) → le16 (word f i) ≡ byte f i ∷ (byte f (i + 1) ∷ [])
 word-again f b i = le16-join (byte f i) (byte f (i + 1)) (bytes-at f b i) (bytes-at f b (i + 1))
 
-flag-again : (x : ℕ) → x ≤ 1 → stateByte (eqb x 1) ≡ x
-unfolding stateByte ifB
+flag-again : (x : ℕ) → x ≤ 1 → bit (eqb x 1) ≡ x
+unfolding bit ifB
 flag-again zero h = refl
 flag-again (suc zero) h = refl
 flag-again (suc (suc x)) h = absurd (omega arith)
@@ -85,7 +70,7 @@ first-twelve f b i s =
 
 -- the first twelve bytes
 pub open-again : (f : List ℕ) → Bytes f → identified f ≡ true → settingsOk f ≡ true → openBytes (settingsOf f) ++ drop 12 f ≡ f
-open-again f b i s = rw (first-twelve f b i s) (sym (from-places 0 12 f (settings-fine f s .long)))
+open-again f b i s = rw (first-twelve f b i s) (sym (drop-places f 0 12 (settings-fine f s .long)))
 
 -- a record's bytes
 module _ (f : List ℕ) (at : ℕ) (b : Bytes f) (r : RecordAt f at) where
@@ -102,15 +87,9 @@ module _ (f : List ℕ) (at : ℕ) (b : Bytes f) (r : RecordAt f at) where
   record-again p =
       let l : at + 3 + lengthAt f at ≤ length f = r .body in
       let e = encode-again (typeAt f at) (bodyAt f at) (r .low) (r .high) (bytes-take (lengthAt f at) _ (bytes-drop (at + 3) f b)) (r .fine) (body-long ∙ p .tight) (p .named) in
-      rw (e, body-long, word-again f b (at + 1), body-next) (sym (from-places at 3 f (omega arith)))
+      rw (e, body-long, word-again f b (at + 1), body-next) (sym (drop-places f at 3 (omega arith)))
 
 -- the end record
-no-end : {e : Refusal} → StepAnswer.Stopped e ≡ StepAnswer.End → ⊥
-no-end c = let z : _≡_ {A = ℕ} 0 1 = cc in omega arith
-
-record-no-end : {n : ℕ} → StepAnswer.Record n ≡ StepAnswer.End → ⊥
-record-no-end c = let z : _≡_ {A = ℕ} 0 1 = cc in omega arith
-
 record EndAt (f : List ℕ) (at : ℕ) : Type 0 where
   there : at + 3 ≤ length f
   type : typeAt f at ≡ 50
@@ -131,4 +110,4 @@ end-again f at e h =
     let v = end-at f at e in
     let low : byte f (at + 1) ≡ 0 = omega (arith, v .none) in
     let high : byte f (at + 1 + 1) ≡ 0 = omega (arith, v .none) in
-    sym (from-places at 3 f (v .there) ∙ rw (v .type, low, high, drop-of-length-le f h))
+    sym (drop-places f at 3 (v .there) ∙ rw (v .type, low, high, drop-of-length-le f h))

@@ -9,8 +9,7 @@ use native.Mathlib.Nat.{add-zero}
 use lib.Dec.{eqb}
 use lib.ListN.{length, getD, drop}
 use Rattle.prelude.specs.Choice.{ifEq, ifB, is-ge, lt-skip}
-use Rattle.prelude.specs.Bytes.{byte, le16, word-le16}
-use Rattle.records.specs.Encoding.{stateByte}
+use Rattle.prelude.specs.Bytes.{bit, byte, le16, word-le16}
 use Rattle.records.specs.BodyLaws.{state-byte}
 use Rattle.book.specs.Settings.{sameBytes, identified, settingsInRange, settingsOf, flagsOk}
 use Rattle.book.specs.Walk.{walkFrom, placesIn, ended}
@@ -20,9 +19,8 @@ use Rattle.book.specs.declared.types.Settings.{Settings}
 use Rattle.book.specs.declared.types.BookAnswer.{BookAnswer}
 use Rattle.prelude.specs.declared.refusals.Verdict.{Verdict}
 use Rattle.writer.specs.Writing.{openBytes}
-use Rattle.writer.specs.Runs.{Item, recordBytes}
-use Rattle.writer.specs.CallLaws.{Items}
-use Rattle.writer.specs.RunLaws.{restBytes, itemBytes, rest-item}
+use Rattle.writer.specs.Runs.{Item, recordBytes, Items, restBytes, itemBytes}
+use Rattle.writer.specs.RunLaws.{rest-item}
 use Rattle.writer.specs.ItemLaws.{Entered, item-next, item-step, item-entry, end-last, end-step}
 
 -- The opening bytes.
@@ -38,8 +36,8 @@ in-range s e =
     let e3 = lt-skip 720 (s .granularity) _ _ false≢true (e2 .1) in
     record { start = e1 .0; granularity = e3 .0 }
 
-flag-back : (b : Bool) → eqb (stateByte b) 1 ≡ b
-unfolding stateByte ifB
+flag-back : (b : Bool) → eqb (bit b) 1 ≡ b
+unfolding bit ifB
 flag-back true = refl
 flag-back false = refl
 

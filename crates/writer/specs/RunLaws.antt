@@ -8,34 +8,21 @@ use native.Mathlib.Omega.{arith}
 use native.Mathlib.Nat.{zero-add}
 use lib.ListN.{length, take, length-append}
 use Rattle.prelude.specs.Splice.{splice, splice-length, splice-take, splice-splice, splice-then}
-use Rattle.records.specs.Encoding.{encode}
 use Rattle.book.specs.Settings.{settingsInRange}
 use Rattle.book.specs.declared.types.Settings.{Settings}
 use Rattle.writer.specs.Writing.{openBytes, endBytes, openRefusal, openGives, openLeaves, addRefusal, addGives, addLeaves, closeRefusal, closeGives, closeLeaves}
-use Rattle.writer.specs.Runs.{Item, done, finish, adds, writing, recordBytes, bookBytes}
-use Rattle.writer.specs.CallLaws.{Items, Room, opened, length-open, call-done, call-goes, open-facts, facts-open, add-facts, facts-add, close-facts, facts-close}
+use Rattle.writer.specs.Runs.{Item, done, finish, adds, writing, recordBytes, bookBytes, restBytes, itemBytes, closedAt, Items, opened, Written}
+use Rattle.writer.specs.CallLaws.{Room, length-open, call-done, call-goes, open-facts, facts-open, add-facts, facts-add, close-facts, facts-close}
 use Rattle.writer.specs.declared.types.Writer.{Writer}
 
--- what is written from the first record on
-abbrev pub restBytes : List Item → List ℕ
-restBytes is = recordBytes is ++ endBytes
-
--- an item as it is written
-abbrev pub itemBytes : Item → List ℕ
-itemBytes i = encode (i .kind) (i .text) (i .note)
-
--- the state of a closed book, so many bytes used
-abbrev pub shut : ℕ → Writer
-shut n = record { used = n; closed = true }
-
 -- The run by its calls.
-finish-done : (at : ℕ) (b : List ℕ) {w : Writer} {b′ : List ℕ} → finish (opened at) b ≡ done w b′ → (closeRefusal (opened at) (length b) ≡ 0) × (done (shut (at + 3)) (splice b at endBytes) ≡ done w b′)
+finish-done : (at : ℕ) (b : List ℕ) {w : Writer} {b′ : List ℕ} → finish (opened at) b ≡ done w b′ → (closeRefusal (opened at) (length b) ≡ 0) × (done (closedAt (at + 3)) (splice b at endBytes) ≡ done w b′)
 unfolding finish closeGives closeLeaves
-finish-done at b e = call-done (closeRefusal (opened at) (length b)) (shut (at + 3)) (opened at) b at endBytes (λ v c. done v c) e
+finish-done at b e = call-done (closeRefusal (opened at) (length b)) (closedAt (at + 3)) (opened at) b at endBytes (λ v c. done v c) e
 
-finish-goes : (at : ℕ) (b : List ℕ) → closeRefusal (opened at) (length b) ≡ 0 → finish (opened at) b ≡ done (shut (at + 3)) (splice b at endBytes)
+finish-goes : (at : ℕ) (b : List ℕ) → closeRefusal (opened at) (length b) ≡ 0 → finish (opened at) b ≡ done (closedAt (at + 3)) (splice b at endBytes)
 unfolding finish closeGives closeLeaves
-finish-goes at b e = call-goes (closeRefusal (opened at) (length b)) (shut (at + 3)) (opened at) b at endBytes (λ v c. done v c) e
+finish-goes at b e = call-goes (closeRefusal (opened at) (length b)) (closedAt (at + 3)) (opened at) b at endBytes (λ v c. done v c) e
 
 add-done :
     (i : Item) (is : List Item) (at : ℕ) (b : List ℕ) {w : Writer} {b′ : List ℕ} → adds (i ∷ is) (opened at) b ≡ done w b′
@@ -60,7 +47,7 @@ record Added (is : List Item) (at : ℕ) (b : List ℕ) (w : Writer) (b′ : Lis
   fine : Items is
   room : at + length (restBytes is) ≤ length b
   book : at + length (restBytes is) ≤ 65535
-  state : w ≡ shut (at + length (restBytes is))
+  state : w ≡ closedAt (at + length (restBytes is))
   bytes : b′ ≡ splice b at (restBytes is)
 
 -- one item more: its bytes, and then those of the others
@@ -90,13 +77,13 @@ adds-done (i ∷ is) at b w b′ e =
       fine = (p .0, g .fine);
       room = omega arith;
       book = omega arith;
-      state = g .state ∙ ap shut n;
+      state = g .state ∙ ap closedAt n;
       bytes = g .bytes ∙ splice-splice b at (itemBytes i) (restBytes is) (omega arith) ∙ ap (splice b at) (sym (rest-item i is));
     }
 
 adds-goes :
     (is : List Item) (at : ℕ) (b : List ℕ) → 12 ≤ at → Items is → at + length (restBytes is) ≤ length b → at + length (restBytes is) ≤ 65535
-    → adds is (opened at) b ≡ done (shut (at + length (restBytes is))) (splice b at (restBytes is))
+    → adds is (opened at) b ≡ done (closedAt (at + length (restBytes is))) (splice b at (restBytes is))
 unfolding adds recordBytes
 adds-goes [] at b h f r k = finish-goes at b (facts-close at (length b) h (record { buffer = r; book = k }))
 adds-goes (i ∷ is) at b h f r k =
@@ -107,7 +94,7 @@ adds-goes (i ∷ is) at b h f r k =
     let a = facts-add at (length b) i h (f .0) (record { buffer = omega arith; book = omega arith }) in
     let g = adds-goes is (at + length (itemBytes i)) (splice b at (itemBytes i)) (omega arith) (f .1) (omega arith) (omega arith) in
     let t = splice-splice b at (itemBytes i) (restBytes is) (omega arith) ∙ ap (splice b at) (sym (rest-item i is)) in
-    add-goes i is at b a ∙ g ∙ (λ j. done (shut (n j)) (t j))
+    add-goes i is at b a ∙ g ∙ (λ j. done (closedAt (n j)) (t j))
 
 book-parts : (s : Settings) (is : List Item) → bookBytes s is ≡ openBytes s ++ restBytes is
 unfolding bookBytes
@@ -115,16 +102,6 @@ book-parts s is = refl
 
 pub length-book : (s : Settings) (is : List Item) → length (bookBytes s is) ≡ 12 + length (restBytes is)
 length-book s is = ap length (book-parts s is) ∙ length-append (openBytes s) (restBytes is) ∙ rw (length-open s)
-
--- what a run that was not refused is
-pub record Written (s : Settings) (is : List Item) (b : List ℕ) (w : Writer) (b′ : List ℕ) : Type 0 where
-  pub settings : settingsInRange s ≡ true
-  pub items : Items is
-  pub state : w ≡ shut (length (bookBytes s is))
-  pub buffer : b′ ≡ splice b 0 (bookBytes s is)
-  pub book : take (w .used) b′ ≡ bookBytes s is
-  pub room : length (bookBytes s is) ≤ length b
-  pub size : length (bookBytes s is) ≤ 65535
 
 module _ (s : Settings) (is : List Item) (b : List ℕ) where
   open-done : {w : Writer} {b′ : List ℕ} → writing s is b ≡ done w b′ → (openRefusal s (length b) ≡ 0) × (adds is (opened 12) (splice b 0 (openBytes s)) ≡ done w b′)
@@ -152,7 +129,7 @@ module _ (s : Settings) (is : List Item) (b : List ℕ) where
       let g : Added is 12 (splice b 0 (openBytes s)) w b′ = adds-done is 12 (splice b 0 (openBytes s)) w b′ (f .1) in
       let l = opened-length (p .1) in
       let n = length-book s is in
-      let u : w ≡ shut (length (bookBytes s is)) = g .state ∙ ap shut (sym n) in
+      let u : w ≡ closedAt (length (bookBytes s is)) = g .state ∙ ap closedAt (sym n) in
       let v : b′ ≡ splice b 0 (bookBytes s is) = g .bytes ∙ both in
       record {
         settings = p .0;
@@ -167,10 +144,10 @@ module _ (s : Settings) (is : List Item) (b : List ℕ) where
   -- When a run is not refused.
   pub writing-goes :
       settingsInRange s ≡ true → Items is → length (bookBytes s is) ≤ length b → length (bookBytes s is) ≤ 65535
-      → writing s is b ≡ done (shut (length (bookBytes s is))) (splice b 0 (bookBytes s is))
+      → writing s is b ≡ done (closedAt (length (bookBytes s is))) (splice b 0 (bookBytes s is))
   writing-goes h f r k =
       let n = length-book s is in
       let o : 3 ≤ length (restBytes is) = rw (length-append (recordBytes is) endBytes) (omega arith) in
       let l = opened-length (omega arith) in
       let g = adds-goes is 12 (splice b 0 (openBytes s)) (omega arith) f (omega arith) (omega arith) in
-      open-goes (facts-open s (length b) h (omega arith)) ∙ g ∙ (λ j. done (shut (sym n j)) (both j))
+      open-goes (facts-open s (length b) h (omega arith)) ∙ g ∙ (λ j. done (closedAt (sym n j)) (both j))

@@ -6,24 +6,23 @@ use mathlib.Core.Bool.{true}
 use mathlib.Core.List.{List, [], _∷_, _++_, map, append-assoc}
 use native.Mathlib.Omega.{arith}
 use lib.ListN.{length, drop}
+use Rattle.prelude.specs.Refusals.{verdict-not}
 use Rattle.prelude.specs.Choice.{lt-skip, b-take}
 use Rattle.prelude.specs.Bytes.{Bytes}
-use Rattle.prelude.specs.declared.refusals.Refusal.{Refusal}
 use Rattle.prelude.specs.declared.refusals.Verdict.{Verdict}
 use Rattle.records.specs.JudgeLaws.{Judged, judged, text-long}
 use Rattle.book.specs.Settings.{identified, settingsOf, settingsOk, settingsInRange}
 use Rattle.book.specs.Walk.{Walk, more, ended, stopped, typeAt, bodyAt, nextPlace, stepAt, walkFrom, walkOf, placesIn}
 use Rattle.book.specs.Books.{afterEndRecord, accepted, counted, bookOf, placesOf}
 use Rattle.book.specs.WalkLaws.{At, at-first, at-next, RecordAt, step-record, walk-record, walk-end, walk-stop}
-use Rattle.book.specs.BookLaws.{book-accepted}
+use Rattle.book.specs.BookLaws.{book-accepted, refused-not}
 use Rattle.book.specs.declared.types.Settings.{Settings}
 use Rattle.book.specs.declared.types.Book.{Book}
 use Rattle.book.specs.declared.types.BookAnswer.{BookAnswer}
 use Rattle.book.specs.declared.types.StepAnswer.{StepAnswer}
 use Rattle.writer.specs.Writing.{endBytes}
-use Rattle.writer.specs.Runs.{recordBytes, bookBytes}
+use Rattle.writer.specs.Runs.{recordBytes, bookBytes, Fine, Items}
 use Rattle.writer.specs.Again.{itemAt, itemsOf, PlainAt, Each, Plain}
-use Rattle.writer.specs.CallLaws.{Fine, Items}
 use Rattle.writer.specs.PieceLaws.{settings-ok-range, open-again, record-again, end-again}
 
 -- The walk by its first step.
@@ -51,12 +50,6 @@ records-met f n at a (more p w) e =
     (rw (m .0) (m .1 .0), records-met f (suc n) (nextPlace f at) (m .1 .1 .0) w (m .1 .1 .1))
 records-met f n at a (ended p) e = tt
 records-met f n at a (stopped r) e = tt
-
-refused-not : {e : Refusal} {b : Book} → BookAnswer.Refused e ≡ BookAnswer.Accepted b → ⊥
-refused-not c = let z : _≡_ {A = ℕ} 0 1 = cc in omega arith
-
-verdict-not : {e : Refusal} → Verdict.Refused e ≡ Verdict.Fine → ⊥
-verdict-not c = let z : _≡_ {A = ℕ} 0 1 = cc in omega arith
 
 fine-only : (s : Settings) (n : ℕ) (v : Verdict) {b : Book} → accepted s n v ≡ BookAnswer.Accepted b → v ≡ Verdict.Fine
 unfolding accepted

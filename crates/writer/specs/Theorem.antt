@@ -18,30 +18,15 @@ use Rattle.book.specs.BookLaws.{AcceptedBook, book-accepted}
 use Rattle.book.specs.declared.types.Book.{Book}
 use Rattle.book.specs.declared.types.Settings.{Settings}
 use Rattle.book.specs.declared.types.BookAnswer.{BookAnswer}
-use Rattle.book.specs.declared.types.Entry.{Entry}
 use Rattle.book.specs.declared.types.RecordAnswer.{RecordAnswer}
 use Rattle.writer.specs.Writing.{openBytes}
-use Rattle.writer.specs.Runs.{Item, done, writing, bookBytes}
-use Rattle.writer.specs.CallLaws.{Items}
-use Rattle.writer.specs.RunLaws.{restBytes, length-book, shut, Written, writing-done, writing-goes}
+use Rattle.writer.specs.Runs.{Item, done, writing, bookBytes, restBytes, closedAt, Written, Items}
+use Rattle.writer.specs.RunLaws.{length-book, writing-done, writing-goes}
 use Rattle.writer.specs.ItemLaws.{Entered}
 use Rattle.writer.specs.declared.types.Writer.{Writer}
-use Rattle.writer.specs.Again.{itemsOf, Plain}
+use Rattle.writer.specs.Again.{itemsOf, Plain, Reads, ReadsAs}
 use Rattle.writer.specs.SameLaws.{items-addable, settings-range, same-bytes}
 use Rattle.writer.specs.ReadBack.{named, settings-back, flags-back, Walked, walked}
-
--- what is read at a number of a file is this item
-pub record Reads (f : List ℕ) (k : ℕ) (i : Item) : Type 0 where
-  pub entry : Entry
-  pub found : recordAnswer f k ≡ RecordAnswer.Record entry
-  pub «record» : entry .«record» ≡ i .kind
-  pub text : textIn f (recordAnswer f k) ≡ i .text
-  pub note : noteIn f (recordAnswer f k) ≡ i .note
-
--- a file reads as a book with these settings and items; an item is named by its number, and the other argument of getD never counts
-pub record ReadsAs (f : List ℕ) (s : Settings) (is : List Item) : Type 0 where
-  pub book : bookOf f ≡ BookAnswer.Accepted (record { settings = s; records = length is })
-  pub items : (k : ℕ) (x : Item) → k < length is → Reads f k (getD is k x)
 
 -- a record of an accepted book, by its entry
 reads :
@@ -106,7 +91,7 @@ writing-reads s is b w b′ e =
 -- a book without padding and unnamed bits, read and written again, has the same bytes, in any buffer of at least its length
 pub writing-same :
     (f : List ℕ) {k : Book} (b : List ℕ) → Bytes f → bookOf f ≡ BookAnswer.Accepted k → Plain f → length f ≤ length b
-    → writing (k .settings) (itemsOf f) b ≡ done (shut (length f)) (splice b 0 f)
+    → writing (k .settings) (itemsOf f) b ≡ done (closedAt (length f)) (splice b 0 f)
 writing-same f {k} b y e p l =
     let q : bookBytes (k .settings) (itemsOf f) ≡ f = same-bytes f y e p in
     let a : AcceptedBook f k = book-accepted f e in

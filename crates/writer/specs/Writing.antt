@@ -5,12 +5,12 @@ use mathlib.Core.Bool.{Bool, true, false}
 use mathlib.Core.List.{List, [], _∷_, _++_}
 use lib.ListN.{length}
 use Rattle.prelude.specs.Choice.{ifLt, ifEq, ifB}
-use Rattle.prelude.specs.Bytes.{le16}
+use Rattle.prelude.specs.Bytes.{bit, le16}
 use Rattle.prelude.specs.Splice.{splice}
 use Rattle.prelude.specs.Refusals.{badSettings, badLength, badField, badText, noRoom, notOpen, refusal}
 use Rattle.records.specs.Ranges.{recordOk}
-use Rattle.records.specs.Notes.{noZero, noteOk}
-use Rattle.records.specs.Encoding.{stateByte, encode}
+use Rattle.notes.specs.Notes.{noZero, noteOk}
+use Rattle.records.specs.Encoding.{encode}
 use Rattle.records.specs.declared.types.Record.{Record}
 use Rattle.book.specs.Settings.{settingsInRange}
 use Rattle.book.specs.declared.types.Settings.{Settings}
@@ -28,7 +28,7 @@ leaves n buffer at bytes = ifEq n 0 (splice buffer at bytes) buffer
 -- "Identification, 5 bytes"; "Settings, 7 bytes"
 unfoldable pub openBytes : Settings → List ℕ
 openBytes s =
-    0xFF ∷ (0xFF ∷ (0x01 ∷ (0x00 ∷ (0x01 ∷ (le16 (s .start .0) ++ (le16 (s .granularity) ++ (stateByte (s .alarm) ∷ (s .lead ∷ (stateByte (s .«carry_forward») ∷ [])))))))))
+    0xFF ∷ (0xFF ∷ (0x01 ∷ (0x00 ∷ (0x01 ∷ (le16 (s .start .0) ++ (le16 (s .granularity) ++ (bit (s .alarm) ∷ (s .lead ∷ (bit (s .«carry_forward») ∷ [])))))))))
 
 -- "open (3, then 12)": "Open needs 15 bytes of room"
 unfoldable pub openRefusal : Settings → ℕ → ℕ

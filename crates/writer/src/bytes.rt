@@ -1,19 +1,6 @@
-// Numbers as bytes.
+// Numbers that fit into a byte.
 ghost use mathlib.Core.Path.{_≡_};
-ghost use Prim.Native.Nat.{_-_, _/_, _%_, _<_, _≤_};
-ghost use Rattle.records.specs.Encoding.{stateByte};
-
-pub fn low(x: u16) -> u8
-    ensures { λ r. ⌜ r ≡ x % 256 ⌝ }
-{
-    (x % 256) as u8
-}
-
-pub fn high(x: u16) -> u8
-    ensures { λ r. ⌜ r ≡ x / 256 % 256 ⌝ }
-{
-    (x / 256 % 256) as u8
-}
+ghost use Prim.Native.Nat.{_-_, _<_, _≤_};
 
 // A number that fits into a byte.
 pub fn small(x: u16) -> u8
@@ -30,13 +17,4 @@ pub fn year(x: u16) -> u8
     ensures { λ r. ⌜ r ≡ x - 1900 ⌝ }
 {
     ((x - 1900) % 256) as u8
-}
-
-pub fn flag(b: bool) -> u8
-    ensures { λ r. ⌜ r ≡ stateByte b ⌝ }
-{
-    if b {
-        return 1;
-    }
-    0
 }

@@ -3,11 +3,11 @@ ghost use mathlib.Core.Path.{_≡_};
 ghost use Prim.Native.Nat.{_≤_, _<_};
 ghost use Rattle.records.specs.declared.types.Record.{Record};
 ghost use Rattle.writer.specs.Heads.{headBytes, shortHead, longHead, toDoHead, DatedFit, RepeatFit, ToDoFit};
-use crate::bytes::flag;
-use crate::bytes::high;
-use crate::bytes::low;
 use crate::bytes::small;
 use crate::bytes::year;
+use prelude::numbers::bit_of;
+use prelude::numbers::high;
+use prelude::numbers::low;
 use records::types::CheckOff;
 use records::types::Dated;
 use records::types::Repeat;
@@ -24,7 +24,7 @@ pub fn dated_head(d: Dated, t: u16, n: u16) -> [u8; 15]
         1,
         low(l),
         high(l),
-        flag(d.alarm),
+        bit_of(d.alarm),
         year(d.date.year),
         small(d.date.month),
         small(d.date.day),
@@ -52,7 +52,7 @@ pub fn short_head(kind: u8, a: u16, r: Repeat, t: u16, n: u16) -> [u8; 19]
         kind,
         low(l),
         high(l),
-        flag(r.alarm),
+        bit_of(r.alarm),
         small(a),
         high(r.start.0),
         low(r.start.0),
@@ -85,7 +85,7 @@ pub fn long_head(kind: u8, a: u16, b: u16, r: Repeat, t: u16, n: u16) -> [u8; 20
         kind,
         low(l),
         high(l),
-        flag(r.alarm),
+        bit_of(r.alarm),
         small(a),
         small(b),
         high(r.start.0),
@@ -113,7 +113,7 @@ fn to_do_bytes(d: ToDo, bit: u8, y: u8, m: u8, day: u8, t: u16, n: u16) -> [u8; 
     ensures { λ r. ⌜ r ≡ toDoHead d bit y m day t n ⌝ }
 {
     let l = 11 + t + n;
-    let carry = flag(d.carry_forward);
+    let carry = bit_of(d.carry_forward);
     [
         6,
         low(l),

@@ -2,7 +2,7 @@
 
 use super::{compare, export, is_refused, shows_the_pages};
 use reference::book::{self, LONGEST};
-use reference::books::{book_of_span, near, small, Cases, Draft, File, Span};
+use reference::books::{book_of_span, near, small, Cases, Draft, Field, File, Span};
 use reference::calendar;
 use reference::export as plain;
 use reference::pages::CHOICES;
@@ -107,6 +107,44 @@ fn the_longest_books() {
             println!("kind {kind}, {records} records");
             is_refused(&[&book[..], &[50]].concat(), span, choice, 100, Refusal { number: 1, place: 0 });
             is_refused(&book, Span { first: 43_465, ..span }, choice, 100, OUT_OF_RANGE);
+        }
+    }
+}
+
+/// Up to 64 records and 32 days take a smaller space, and more a larger one.
+#[test]
+fn few_and_many() {
+    let mut rng = Rng::for_test("few_and_many");
+    for records in [62, 63, 64, 65, 66, 128] {
+        for count in [1, 31, 32, 33, 34] {
+            let span = Span { first: rng.within(0..=43_796) as u16, count };
+            let book = book_of_span(span, records, &mut rng).bytes;
+            for choice in CHOICES {
+                let file = compare(&book, span, choice, 300_000).expect("room");
+                shows_the_pages(&book, span, choice, &file, 1);
+            }
+        }
+    }
+}
+
+/// The most that a book can have: 4,680 to-dos, or 4,368 dated records, all of one day.
+#[test]
+fn the_most_records() {
+    let mut rng = Rng::for_test("the_most_records");
+    for (kind, records, length) in [(6, 4_680, 64), (1, 4_368, 128 + 21_888)] {
+        let bare = |_| {
+            let mut draft = Draft { text: vec![], ..small(kind, &mut rng) };
+            draft.put(Field::Date, [93, 3, 15]);
+            draft
+        };
+        let drafts: Vec<Draft> = (0..records).map(bare).collect();
+        let book = File::new([0, 0, 1, 0, 0, 0, 0], &drafts).bytes;
+        assert_eq!(book.len(), LONGEST);
+        for count in [1, 366] {
+            let (span, choice) = (Span { first: 4_822, count }, rng.pick(&CHOICES));
+            let file = compare(&book, span, choice, 100_000).expect("room");
+            assert_eq!(file.len(), length);
+            shows_the_pages(&book, span, choice, &file, 200);
         }
     }
 }

@@ -129,6 +129,36 @@ fn the_longest_books() {
     }
 }
 
+/// All of them on one day: up to 64 records are ordered in a smaller space, and more in a larger one.
+#[test]
+fn every_number_of_records() {
+    let mut rng = Rng::for_test("every_number_of_records");
+    for records in 0..=140 {
+        for minutes in [1, 5, 1_440] {
+            let drafts: Vec<Draft> =
+                (0..records).map(|_| on_a_day(rng.within(1..=5) as u8, minutes, &mut rng)).collect();
+            let file = File::random(&drafts, &mut rng).bytes;
+            assert_eq!(compare_page(&file, 4_822, Skip, |_| true), records);
+        }
+    }
+}
+
+/// The most that a book can have: 4,680 to-dos of 14 bytes, or 4,368 dated records of 15, both without a text.
+#[test]
+fn the_most_records() {
+    let mut rng = Rng::for_test("the_most_records");
+    for (kind, records, lines) in [(6, 4_680, 0), (1, 4_368, 4_368)] {
+        let bare = |_| Draft { text: vec![], ..on_a_day(kind, 1_440, &mut rng) };
+        let drafts: Vec<Draft> = (0..records).map(bare).collect();
+        let file = File::new([0, 0, 1, 0, 0, 0, 0], &drafts).bytes;
+        assert_eq!(file.len(), 65_535);
+        assert_eq!(compare_page(&file, 4_822, Last, |line| line % 97 == 0), lines);
+        for record in [0, records - 1, records] {
+            compare_record(&file, record, 4_000, Skip);
+        }
+    }
+}
+
 /// A small record on 15 March 1993, at one of so many minutes.
 fn on_a_day(kind: u8, minutes: usize, rng: &mut Rng) -> Draft {
     let mut draft = small(kind, rng);

@@ -4,6 +4,7 @@
 //! None of these is inlined; the row "an empty call" is what the loop and a call cost by themselves.
 //! Instructions are counted by callgrind, over this program run again for each cell, inside of `measured` only.
 
+mod across;
 mod books;
 mod calendars;
 mod days;
@@ -44,7 +45,7 @@ fn row(call: &'static str, case: &'static str, calls: usize, make: impl Fn() -> 
 }
 
 const GROUPS: &[fn() -> Vec<Row>] =
-    &[days::rows, books::rows, writings::rows, pages::rows, calendars::rows, exports::rows];
+    &[days::rows, books::rows, writings::rows, pages::rows, calendars::rows, exports::rows, across::rows];
 
 fn kept<T>(value: T) -> &'static T {
     Box::leak(Box::new(value))

@@ -14,7 +14,7 @@ use std::hint::black_box;
 
 const CALLS: usize = 20;
 
-const SETTINGS: BookAnswer = BookAnswer {
+pub const SETTINGS: BookAnswer = BookAnswer {
     number: 0,
     place: 0,
     records: 0,
@@ -47,7 +47,7 @@ fn hidden_calls() -> (Open, Add, Close) {
 }
 
 /// Lends the same buffer to each call.
-fn lent<I: Copy + 'static, O>(input: I, call: impl Fn(I, &mut [u8]) -> O + 'static) -> Option<Run> {
+pub fn lent<I: Copy + 'static, O>(input: I, call: impl Fn(I, &mut [u8]) -> O + 'static) -> Option<Run> {
     let buffer = RefCell::new(vec![0; LONGEST]);
     again(input, move |input| call(input, &mut buffer.borrow_mut()))
 }

@@ -18,7 +18,7 @@ loop-holds : tie.Need-loop-holds Inv-loop μ-loop
 loop-holds c = (cursor-first _ (c .before .pre .0), omega arith)
 
 next-place-requires : tie.Need-next-place-requires Inv-loop μ-loop
-next-place-requires c κs = omega arith
+next-place-requires c κs = cursor-ahead _ _ _ (c .before .loop .inv .0) (omega arith) .entry
 
 add-i : tie.Need-add-i Inv-loop μ-loop
 add-i c = omega arith

@@ -4,6 +4,7 @@ use native.Mathlib.Omega.{arith}
 use mathlib.Core.Path.{refl, ap, _∙_}
 use Rattle.prelude.specs.Choice.{lt-yes, lt-no}
 use Rattle.book.specs.Books.{entryAt, recordFrom}
+use Rattle.book.specs.EntryLaws.{record-there}
 use Rattle.book.specs.declared.types.RecordAnswer.{RecordAnswer}
 use borrow.Author.Needs.{needs}
 use Rattle.book.proofs.entries.record_in.Statement.{statement}
@@ -13,7 +14,7 @@ place-of-requires : tie.Need-place-of-requires
 place-of-requires c κs = search needs
 
 entry-at-requires : tie.Need-entry-at-requires
-entry-at-requires c κs = search needs
+entry-at-requires c κs = rw (c .place-of .ensures .0) (record-there _ (c .before .before .before .before .pre .long) _ (omega (arith, c .before .before .before .before .pre .count)))
 
 returns : tie.Need-returns
 unfolding recordFrom

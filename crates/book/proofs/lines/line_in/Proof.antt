@@ -6,13 +6,13 @@ use mathlib.Core.Path.{_≡_, refl, _∙_, ap}
 use mathlib.Core.List.{List}
 use lib.ListN.{length, drop, length-take}
 use Rattle.prelude.specs.Choice.{lt-yes, lt-no}
-use Rattle.prelude.specs.Bytes.{part}
-use Rattle.records.specs.Notes.{linesOf}
-use Rattle.records.specs.Lines.{lineAt}
-use Rattle.records.specs.LineLaws.{line-inside}
-use Rattle.records.specs.declared.types.Stretch.{Stretch}
-use Rattle.book.specs.Lines.{noteOfEntry, lineOfEntry}
-use Rattle.book.specs.declared.types.LineAnswer.{LineAnswer}
+use Rattle.prelude.specs.Bytes.{stretchBytes, part}
+use Rattle.notes.specs.Notes.{linesOf}
+use Rattle.notes.specs.Lines.{lineAt}
+use Rattle.notes.specs.LineLaws.{line-inside}
+use Rattle.prelude.specs.declared.slices.Stretch.{Stretch}
+use Rattle.book.specs.Lines.{lineOf}
+use Rattle.book.specs.declared.types.StretchAnswer.{StretchAnswer}
 use borrow.Author.Needs.{needs}
 use Rattle.book.proofs.lines.line_in.Statement.{statement}
 use Rattle.book.proofs.lines.line_in.Tie as tie
@@ -27,25 +27,25 @@ line-at-requires : tie.Need-line-at-requires
 line-at-requires c κs = search needs
 
 -- the lines counted are those of the note in the file
-lines : (c : tie.After-line-count) → c .line-count .result ≡ length (linesOf (noteOfEntry (c .before .before .before .args .file .now) (c .before .before .before .args .e)))
+lines : (c : tie.After-line-count) → c .line-count .result ≡ length (linesOf (stretchBytes (c .before .before .before .args .file .now) (c .before .before .before .args .s)))
 lines c = c .line-count .ensures ∙ ap (λ (n : List ℕ). length (linesOf n)) (c .before .part .ensures)
 
 add-t9 : tie.Need-add-t9
 add-t9 c =
     let b = c .before .before .before .before in
     let n = b .part .result .now in
-    omega (arith, ap (λ (s : Stretch). s .place) (c .before .line-at .ensures), line-inside n (b .before .before .args .j), ap length (b .part .ensures), length-take (b .before .before .args .e .note .length) (drop (b .before .before .args .e .note .place) (b .before .before .args .file .now)))
+    omega (arith, ap (λ (s : Stretch). s .place) (c .before .line-at .ensures), line-inside n (b .before .before .args .j), ap length (b .part .ensures), length-take (b .before .before .args .s .length) (drop (b .before .before .args .s .place) (b .before .before .args .file .now)))
 
 returns : tie.Need-returns
-unfolding lineOfEntry
+unfolding lineOf
 returns c =
     let b = c .before .before .before .before in
     let g = c .before .line-at .ensures ∙ ap (λ (n : List ℕ). lineAt n (b .before .before .args .j)) (b .part .ensures) in
     lt-yes _ _ _ (omega (arith, lines (c .before .before .before)))
-    (ap (λ (s : Stretch). LineAnswer.Line (record { place = b .before .before .args .e .note .place + s .place; length = s .length })) g)
+    (ap (λ (l : Stretch). StretchAnswer.Stretch (record { place = b .before .before .args .s .place + l .place; length = l .length })) g)
 
 returns-2 : tie.Need-returns-2
-unfolding lineOfEntry
+unfolding lineOf
 returns-2 c = lt-no _ _ _ (omega (arith, lines (c .before))) refl
 
 pub line-in-spec : {M : Type 1} → statement M

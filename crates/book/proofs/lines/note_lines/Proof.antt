@@ -1,18 +1,18 @@
--- `note_lines` meets its contract: the record's answer decides.
+-- `note_lines` meets its contract: the note's answer decides.
 -- Assumes nothing.
 use Prim.Native.Nat.{ℕ}
 use mathlib.Core.Path.{sym, ap, _∙_}
 use mathlib.Core.List.{List}
 use lib.ListN.{length}
-use Rattle.records.specs.Notes.{linesOf}
-use Rattle.book.specs.Lines.{linesFrom, linesAnswer}
+use Rattle.notes.specs.Notes.{linesOf}
+use Rattle.book.specs.Lines.{linesIn, linesAnswer}
 use Rattle.book.specs.declared.types.LinesAnswer.{LinesAnswer}
 use borrow.Author.Needs.{needs}
 use Rattle.book.proofs.lines.note_lines.Statement.{statement}
 use Rattle.book.proofs.lines.note_lines.Tie as tie
 
-record-at-requires : tie.Need-record-at-requires
-record-at-requires c κs = search needs
+note-of-requires : tie.Need-note-of-requires
+note-of-requires c κs = search needs
 
 enum-known-a : tie.Need-enum-known-a
 enum-known-a c = search needs
@@ -27,18 +27,18 @@ enum-known-a-2 : tie.Need-enum-known-a-2
 enum-known-a-2 c = search needs
 
 returns : tie.Need-returns
-unfolding linesAnswer linesFrom
-returns c = ap LinesAnswer.Lines (c .line-count .ensures ∙ ap (λ (n : List ℕ). length (linesOf n)) (c .before .part .ensures)) ∙ ap (linesFrom _) (sym (sym (c .before .before .before .before .before .record-at .ensures) ∙ c .before .before .before .a .given .1))
+unfolding linesAnswer linesIn
+returns c = ap LinesAnswer.Lines (c .line-count .ensures ∙ ap (λ (n : List ℕ). length (linesOf n)) (c .before .part .ensures)) ∙ ap (linesIn _) (sym (sym (c .before .before .before .before .before .note-of .ensures) ∙ c .before .before .before .a .given .1))
 
 returns-2 : tie.Need-returns-2
-unfolding linesAnswer linesFrom
-returns-2 c = ap (linesFrom _) (sym (sym (c .before .before .before .record-at .ensures) ∙ c .before .a2 .given .1))
+unfolding linesAnswer linesIn
+returns-2 c = ap (linesIn _) (sym (sym (c .before .before .before .note-of .ensures) ∙ c .before .a2 .given .1))
 
 pub note-lines-spec : {M : Type 1} → statement M
 note-lines-spec =
     tie.close
     (tie.spec
-    record-at-requires
+    note-of-requires
     enum-known-a
     part-requires
     line-count-requires

@@ -1,7 +1,7 @@
 -- `apptbook_export` meets its contract: what the layer below gives and leaves, as it crosses.
 -- Assumes nothing.
 use mathlib.Core.Path.{ap, _∙_}
-use Rattle.cabi.specs.ExportCalls.{exportOut}
+use Rattle.marshal.specs.CalendarAnswers.{exportOut}
 use borrow.Author.Needs.{needs}
 use Rattle.cabi.proofs.export_calls.apptbook_export.Statement.{statement}
 use Rattle.cabi.proofs.export_calls.apptbook_export.Tie as tie

@@ -4,6 +4,9 @@ use borrow.Author.Needs.{needs}
 use Rattle.cabi.proofs.writer_calls.apptbook_close.Statement.{statement}
 use Rattle.cabi.proofs.writer_calls.apptbook_close.Tie as tie
 
+writer-in-requires : tie.Need-writer-in-requires
+writer-in-requires c κs = search needs
+
 close-book-requires : tie.Need-close-book-requires
 close-book-requires c κs = search needs
 
@@ -18,4 +21,4 @@ returns c = (cc, cc)
 
 pub apptbook-close-spec : {M : Type 1} → statement M
 apptbook-close-spec =
-    tie.close (tie.spec close-book-requires writer-out-requires same-length returns)
+    tie.close (tie.spec writer-in-requires close-book-requires writer-out-requires same-length returns)

@@ -31,7 +31,7 @@ sub-t10 c = search needs
 
 returns : tie.Need-returns
 unfolding entryAt
-returns c = rw (c .before .before .before .word-in .ensures, c .before .wide .ensures, c .size-at .ensures .0)
+returns c = rw (c .before .before .before .word-in .ensures, c .before .wide .ensures .0, c .size-at .ensures .0)
 
 pub entry-at-spec : {M : Type 1} → statement M
 entry-at-spec =

@@ -1,7 +1,7 @@
 -- `judge_days` meets its contract. The loop keeps: the days are judged as those that are left from p on.
 -- Assumes nothing.
-use Prim.Native.Nat.{ℕ, suc, _+_, _*_, _-_}
-use mathlib.Core.Path.{_≡_, refl, sym, _∙_, ap}
+use Prim.Native.Nat.{ℕ, suc, _+_, _*_, _-_, _/_}
+use mathlib.Core.Path.{_≡_, sym, _∙_, ap}
 use mathlib.Core.List.{List}
 use borrow.Author.Needs.{needs}
 use Rattle.calendar.specs.Reader.{daysFrom}
@@ -11,10 +11,10 @@ use Rattle.calendar.proofs.reading.judge_days.Statement.{statement}
 use Rattle.calendar.proofs.reading.judge_days.Tie as tie
 
 abbrev Inv-loop : tie.InvT-loop
-Inv-loop file count table-end p₀ left₀ p left = (daysFrom count file 64 ≡ daysFrom left file p) × (p + 12 * left ≡ 64 + 12 * count)
+Inv-loop file count table-end p₀ p = (daysFrom count file 64 ≡ daysFrom ((64 + 12 * count - p) / 12) file p) × (p + 12 * ((64 + 12 * count - p) / 12) ≡ 64 + 12 * count)
 
 abbrev μ-loop : tie.MeasureT-loop
-μ-loop file count table-end p₀ left₀ p left = left
+μ-loop file count table-end p₀ p = 64 + 12 * count - p
 
 mul-table-end : tie.Need-mul-table-end Inv-loop μ-loop
 mul-table-end c = omega arith
@@ -23,7 +23,7 @@ add-table-end : tie.Need-add-table-end Inv-loop μ-loop
 add-table-end c = omega arith
 
 loop-holds : tie.Need-loop-holds Inv-loop μ-loop
-loop-holds c = (refl, omega arith)
+loop-holds c = (ap (λ (n : ℕ). daysFrom n (c .before .args .file .now) 64) (omega arith), omega arith)
 
 judge-day-requires : tie.Need-judge-day-requires Inv-loop μ-loop
 judge-day-requires c κs = omega arith
@@ -34,9 +34,6 @@ enum-told c = search needs
 add-p : tie.Need-add-p Inv-loop μ-loop
 add-p c = omega arith
 
-sub-left : tie.Need-sub-left Inv-loop μ-loop
-sub-left c = omega arith
-
 loop-less : tie.Need-loop-less Inv-loop μ-loop
 loop-less c = omega arith
 
@@ -44,7 +41,7 @@ abbrev file : tie.In-loop Inv-loop μ-loop → List ℕ
 file c = c .before .before .before .args .file .now
 
 -- a day is left
-one : (c : tie.In-loop Inv-loop μ-loop) → daysFrom (c .before .before .before .args .count) (file c) 64 ≡ daysFrom (suc (c .before .loop .left - 1)) (file c) (c .before .loop .p)
+one : (c : tie.In-loop Inv-loop μ-loop) → daysFrom (c .before .before .before .args .count) (file c) 64 ≡ daysFrom (suc ((64 + 12 * c .before .before .before .args .count - (c .before .loop .p + 12)) / 12)) (file c) (c .before .loop .p)
 one c = c .before .loop .inv .0 ∙ ap (λ (n : ℕ). daysFrom n (file c) (c .before .loop .p)) (omega arith)
 
 loop-again : tie.Need-loop-again Inv-loop μ-loop
@@ -78,7 +75,6 @@ judge-days-spec =
     judge-day-requires
     enum-told
     add-p
-    sub-left
     loop-less
     loop-again
     enum-known-e

@@ -12,8 +12,11 @@ add-result c = search needs
 add-result-2 : tie.Need-add-result-2
 add-result-2 c = search needs
 
+cast-result : tie.Need-cast-result
+cast-result c = search needs
+
 returns : tie.Need-returns
 returns c = omega (arith, weekday-formula (c .args .n))
 
 pub weekday-of-spec : {M : Type 1} → statement M
-weekday-of-spec = tie.close (tie.spec add-result add-result-2 returns)
+weekday-of-spec = tie.close (tie.spec add-result add-result-2 cast-result returns)

@@ -6,9 +6,9 @@ use mathlib.Core.Bool.{true}
 use native.Mathlib.Omega.{arith}
 use lib.ListN.{length}
 use Rattle.prelude.specs.Choice.{is-true, is-false}
-use Rattle.export.specs.Export.{spanOk, exportDays, exportFile, tooFar, sized, exportFrom, leaves, showsUnder}
+use Rattle.export.specs.Export.{spanOk, exportFile, spanAnswer, exportFrom, leaves, showsUnder}
 use Rattle.export.specs.AnswerLaws.{Span, span-facts}
-use Rattle.exporting.specs.ExportLaws.{first-facts, first-not}
+use Rattle.exporting.specs.ExportLaws.{first-facts, first-not, left-span}
 use borrow.Author.Needs.{needs}
 use Rattle.exporting.proofs.calls.export_in.Statement.{statement}
 use Rattle.exporting.proofs.calls.export_in.Tie as tie
@@ -36,7 +36,7 @@ export-span-requires c κs =
     let s = t .before .before .before .before in
     let g = first-facts (s .args .first .0) (sym (f .facts-of-day .ensures) ∙ a .a .given .1) in
     let p = span t in
-    (s .pre, (g .facts, (omega (arith, g .day, p .end), p .most)))
+    record { book = s .pre; facts = g .facts; end = omega (arith, g .day, p .end); most = p .most }
 
 enum-known-a-2 : tie.Need-enum-known-a-2
 enum-known-a-2 c = search needs
@@ -57,9 +57,10 @@ returns c =
     let s = t .before .before .before .before .args in
     let d = first-facts (s .first .0) (sym (f .facts-of-day .ensures) ∙ a .a .given .1) .day in (
       h .export-span .ensures .0
-          ∙ ap (λ (n : ℕ). sized (length (s .out .now)) (tooFar (exportDays (showsUnder (s .c)) (s .file .now) n (s .count))) (length (exportFile (showsUnder (s .c)) (s .file .now) n (s .count)))) d
+          ∙ ap (λ (n : ℕ). spanAnswer (showsUnder (s .c)) (s .file .now) n (s .count) (length (s .out .now))) d
           ∙ sym (is-true (fine t) _ _),
-      h .export-span .ensures .1 ∙ ap (λ (n : ℕ). leaves (exportFile (showsUnder (s .c)) (s .file .now) n (s .count)) (s .out .now) (h .export-span .result)) d,
+      left-span (showsUnder (s .c)) (s .file .now) _ (s .count) (s .out .now) (h .export-span .ensures .0) (h .export-span .ensures .1)
+          ∙ ap (λ (n : ℕ). leaves (exportFile (showsUnder (s .c)) (s .file .now) n (s .count)) (s .out .now) (h .export-span .result)) d,
     )
 
 returns-2 : tie.Need-returns-2

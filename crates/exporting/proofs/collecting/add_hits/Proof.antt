@@ -6,8 +6,8 @@ use mathlib.Core.Bool.{true}
 use native.Mathlib.Omega.{arith}
 use lib.ListN.{length, getD}
 use Rattle.spans.specs.Rules.{ruleShows}
-use Rattle.exporting.specs.Scatter.{Added}
-use Rattle.exporting.specs.ScatterLaws.{added-none, added-hit}
+use Rattle.pieces.specs.Scatter.{Added}
+use Rattle.pieces.specs.ScatterLaws.{added-none, added-hit}
 use Rattle.exporting.proofs.collecting.add_hits.Statement.{statement}
 use Rattle.exporting.proofs.collecting.add_hits.Tie as tie
 

@@ -4,8 +4,9 @@ use Prim.Native.Nat.{_-_, _≤_}
 use mathlib.Core.Path.{_≡_, refl, sym, _∙_}
 use native.Mathlib.Omega.{arith}
 use lib.ListN.{length, length-set}
+use Rattle.book.specs.BookLaws.{cursor-ahead}
 use Rattle.book.specs.CountLaws.{count-most}
-use Rattle.exporting.specs.Scatter.{Below}
+use Rattle.exporting.specs.Passes.{Below}
 use Rattle.exporting.specs.CollectLaws.{Collecting, collect-start, collect-sound, collect-skip, collect-take, collect-end}
 use Rattle.exporting.proofs.collecting.collect.Statement.{statement}
 use Rattle.exporting.proofs.collecting.collect.Tie as tie
@@ -23,7 +24,9 @@ loop-holds c =
     (collect-start _ _ _ _ _ (s .pre .0 .long) (p .0) (p .1), omega arith, refl)
 
 next-place-requires : tie.Need-next-place-requires Inv-loop μ-loop
-next-place-requires c κs = c .before .loop .inv .0 .cursor .here .high
+next-place-requires c κs =
+    let s = c .before .before .before .before .before .before in
+    cursor-ahead _ _ _ (c .before .loop .inv .0 .cursor) (omega (arith, s .pre .0 .count)) .entry
 
 add-n : tie.Need-add-n Inv-loop μ-loop
 add-n c = omega arith

@@ -1,14 +1,15 @@
--- `take_in` meets its contract: the record's hours and text make its weight and its code.
+-- `take_in` meets its contract: the record's times and text make its weight and its code.
 -- Assumes nothing.
 use Prim.Native.Nat.{_≤_}
 use mathlib.Core.Path.{_≡_, sym, ap, _∙_}
 use native.Mathlib.Omega.{arith}
-use Rattle.records.specs.declared.types.Stretch.{Stretch}
+use Rattle.prelude.specs.Bytes.{bit-most}
+use Rattle.prelude.specs.declared.slices.Stretch.{Stretch}
 use Rattle.falls.specs.declared.types.Times.{Times}
 use Rattle.pages.specs.PageLaws.{recordAt}
 use Rattle.pages.specs.Codes.{codeWith}
 use Rattle.pages.specs.CodeLaws.{code-at}
-use Rattle.export.specs.AppointmentLaws.{bit-most}
+use Rattle.export.specs.AppointmentLaws.{}
 use Rattle.exporting.specs.Passes.{weighs}
 use borrow.Author.Needs.{needs}
 use Rattle.exporting.proofs.collecting.take_in.Statement.{statement}

@@ -2,8 +2,8 @@
 -- Assumes nothing.
 use Prim.Native.Nat.{ℕ}
 use native.Mathlib.Omega.{arith}
+use Rattle.prelude.specs.Bytes.{bit}
 use Rattle.prelude.specs.Choice.{is-true, is-false}
-use Rattle.export.specs.Export.{bit}
 use borrow.Author.Needs.{needs}
 use Rattle.exporting.proofs.collecting.weight_of.Statement.{statement}
 use Rattle.exporting.proofs.collecting.weight_of.Tie as tie

@@ -6,18 +6,18 @@ use mathlib.Core.List.{List}
 use native.Mathlib.Omega.{arith}
 use lib.ListN.{length, getD, take, drop, length-take}
 use lib.Seq.{length-take-le}
-use Rattle.prelude.specs.Bytes.{part}
+use Rattle.prelude.specs.Bytes.{bit, part}
 use Rattle.prelude.specs.Splice.{splice-take}
 use Rattle.falls.specs.declared.types.ShortMonth.{ShortMonth}
 use Rattle.pages.specs.Pages.{lineOf}
 use Rattle.pages.specs.Codes.{decode}
 use Rattle.pages.specs.declared.types.Line.{Line}
 use Rattle.calendar.specs.File.{Appointment, appointmentBytes}
-use Rattle.export.specs.Export.{bit, specialTime, appointmentOf}
+use Rattle.export.specs.Export.{specialTime, appointmentOf}
 use Rattle.calendar.specs.FileLaws.{length-appointment}
 use Rattle.spans.specs.Rules.{ruleShows}
 use Rattle.spans.specs.declared.types.Rule.{Rule}
-use Rattle.exporting.specs.Scatter.{Added, scatter}
+use Rattle.pieces.specs.Scatter.{Added, scatter}
 use Rattle.exporting.specs.Passes.{marked}
 use borrow.Author.Needs.{needs}
 use Rattle.exporting.proofs.filling.fill_code.Statement.{statement}

@@ -2,6 +2,7 @@
 -- Assumes nothing.
 use native.Mathlib.Omega.{arith}
 use Prim.Native.Nat.{ℕ}
+use Rattle.prelude.specs.Bytes.{bit-most}
 use Rattle.prelude.specs.Choice.{is-eq, is-ne}
 use Rattle.export.specs.Export.{specialTime}
 use borrow.Author.Needs.{needs}
@@ -16,14 +17,14 @@ rem-if1 c = search needs
 
 returns : tie.Need-returns
 unfolding specialTime
-returns c = omega (arith, is-eq (c .if1 .taken) {X = ℕ} 0 2, c .before .bit-of .ensures .0)
+returns c = omega (arith, is-eq (c .if1 .taken) {X = ℕ} 0 2, c .before .bit-of .ensures)
 
 add-result : tie.Need-add-result
-add-result c = search needs
+add-result c = omega (arith, c .before .bit-of .ensures, bit-most (c .before .before .args .alarm))
 
 returns-2 : tie.Need-returns-2
 unfolding specialTime
-returns-2 c = omega (arith, is-ne (c .if1 .left) {X = ℕ} 0 2, c .before .bit-of .ensures .0)
+returns-2 c = omega (arith, is-ne (c .if1 .left) {X = ℕ} 0 2, c .before .bit-of .ensures)
 
 pub flags-of-spec : {M : Type 1} → statement M
 flags-of-spec = tie.close (tie.spec bit-of-requires rem-if1 returns add-result returns-2)

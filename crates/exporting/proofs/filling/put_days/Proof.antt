@@ -4,9 +4,9 @@ use Prim.Native.Nat.{_+_, _-_, _*_, _≤_}
 use mathlib.Core.Path.{_≡_, sym, _∙_}
 use native.Mathlib.Omega.{arith}
 use lib.ListN.{length}
-use Rattle.exporting.specs.Sums.{rows, unitsTo, noneYet}
+use Rattle.pieces.specs.Sums.{rows, unitsTo, noneYet}
 use Rattle.exporting.specs.Passes.{soFar}
-use Rattle.exporting.specs.FillLaws.{Filled, filled-self, filled-over}
+use Rattle.pieces.specs.FillLaws.{Filled, filled-self, filled-over}
 use Rattle.exporting.specs.ReadyLaws.{ready-days, ready-sound, ready-long, blank-long, ready-start, ready-room, ready-next, ready-whole}
 use Rattle.exporting.proofs.filling.put_days.Statement.{statement}
 use Rattle.exporting.proofs.filling.put_days.Tie as tie

@@ -9,7 +9,7 @@ use Rattle.prelude.specs.Grown.{Grown, start, space, space-last, grow, turn, fi
 use Rattle.calendar.specs.File.{Day, zeros, headBytes, fileOf}
 use Rattle.export.specs.Export.{appointmentsFor, daysWith, showsUnder}
 use Rattle.calendar.specs.FileLaws.{length-head}
-use Rattle.exporting.specs.Sums.{sumTable, rows}
+use Rattle.pieces.specs.Sums.{sumTable, rows}
 use Rattle.exporting.specs.Passes.{soFar}
 use Rattle.exporting.specs.ReadyLaws.{ready-few, ready-table, ready-file}
 use borrow.Author.Needs.{needs}

@@ -30,7 +30,7 @@ file c = c .before .before .before .args .file .now
 abbrev falling : tie.After-f Inv-loop μ-loop → Numbered → Bool
 falling c = fallsOn (c .before .before .before .args .c) (c .before .before .before .args .a .facts)
 
-turned : (c : tie.After-place-after Inv-loop μ-loop) → Turn (file (c .before .before .before .before)) (c .before .before .before .loop .n) (c .before .before .before .loop .at)
+turned : (c : tie.After-next-place Inv-loop μ-loop) → Turn (file (c .before .before .before .before)) (c .before .before .before .loop .n) (c .before .before .before .loop .at)
 turned c = turn _ _ _ (c .before .before .before .loop .inv .0) (omega arith)
 
 loop-holds : tie.Need-loop-holds Inv-loop μ-loop
@@ -42,8 +42,8 @@ loop-holds c = (
   ap (λ (xs : List Numbered). map code (keep (falling c) xs)) (numbered-first (file c)),
 )
 
-place-after-requires : tie.Need-place-after-requires Inv-loop μ-loop
-place-after-requires c κs = cursor-ahead _ _ _ (c .before .before .loop .inv .0) (omega arith) .entry
+next-place-requires : tie.Need-next-place-requires Inv-loop μ-loop
+next-place-requires c κs = cursor-ahead _ _ _ (c .before .before .loop .inv .0) (omega arith) .entry
 
 add-n : tie.Need-add-n Inv-loop μ-loop
 add-n c = omega arith
@@ -78,7 +78,7 @@ loop-again c =
     let v : c .code-of .result ≡ code (recordAt (file (l .before)) (l .loop .n) (l .loop .at)) =
     c .code-of .ensures ∙ ap (λ (x : ℕ). codeWith x (l .loop .n) (l .loop .at)) (c .before .start-at .ensures) ∙ sym (code-at (file (l .before)) (l .loop .n) (l .loop .at) (omega arith) (omega arith)) in
     let w = l .loop .inv .4 ∙ ap (λ (xs : List Numbered). take (l .loop .count) (l .loop .codes) ++ map code xs) e ∙ ap (λ (x : ℕ). take (l .loop .count) (l .loop .codes) ++ (x ∷ map code (keep (falling (l .before)) (numberedAt (file (l .before)) (suc (l .loop .n)))))) (sym v) in
-    rw (add-one (l .loop .n), c .before .before .before .before .place-after .ensures) (t .next, omega arith, omega arith, length-set (l .loop .codes) (l .loop .count) (c .code-of .result) ∙ l .loop .inv .3, push (l .loop .codes) (l .loop .count) _ _ _ (omega arith) w)
+    rw (add-one (l .loop .n), c .before .before .before .before .next-place .ensures) (t .next, omega arith, omega arith, length-set (l .loop .codes) (l .loop .count) (c .code-of .result) ∙ l .loop .inv .3, push (l .loop .codes) (l .loop .count) _ _ _ (omega arith) w)
 
 loop-less-2 : tie.Need-loop-less-2 Inv-loop μ-loop
 loop-less-2 c = omega arith
@@ -89,7 +89,7 @@ loop-again-2 c =
     let t = turned (c .before .before) in
     let e = turn-no (file (l .before)) (l .loop .n) (l .loop .at) t (falling (l .before)) (sym (c .before .falls-at .ensures) ∙ c .if2 .left) in
     let w = l .loop .inv .4 ∙ ap (λ (xs : List Numbered). take (l .loop .count) (l .loop .codes) ++ map code xs) e in
-    rw (add-one (l .loop .n), c .before .before .place-after .ensures) (t .next, omega arith, omega arith, l .loop .inv .3, w)
+    rw (add-one (l .loop .n), c .before .before .next-place .ensures) (t .next, omega arith, omega arith, l .loop .inv .3, w)
 
 same-length : tie.Need-same-length Inv-loop μ-loop
 same-length c = c .before .before .loop .inv .3
@@ -107,7 +107,7 @@ collect-spec =
     Inv-loop
     μ-loop
     loop-holds
-    place-after-requires
+    next-place-requires
     add-n
     falls-at-requires
     start-at-requires

@@ -2,32 +2,32 @@
 -- Assumes nothing.
 use mathlib.Core.Path.{sym, _∙_, ap}
 use Rattle.pages.specs.Answers.{lineIn}
-use Rattle.pages.specs.PageLaws.{asked-ready}
+use Rattle.pages.specs.PageLaws.{validated-ready}
 use borrow.Author.Needs.{needs}
 use Rattle.pages.proofs.lines.line_at.Statement.{statement}
 use Rattle.pages.proofs.lines.line_at.Tie as tie
 
-ask-requires : tie.Need-ask-requires
-ask-requires c κs = search needs
+validate-requires : tie.Need-validate-requires
+validate-requires c κs = search needs
 
 enum-known-a : tie.Need-enum-known-a
 enum-known-a c = search needs
 
 line-in-requires : tie.Need-line-in-requires
-line-in-requires c κs = asked-ready _ _ (sym (c .before .before .before .ask .ensures) ∙ c .before .a .given .1)
+line-in-requires c κs = validated-ready _ _ (sym (c .before .before .before .validate .ensures) ∙ c .before .a .given .1)
 
 enum-known-a-2 : tie.Need-enum-known-a-2
 enum-known-a-2 c = search needs
 
 returns : tie.Need-returns
 unfolding lineIn
-returns c = c .line-in .ensures ∙ ap (lineIn _ _ _) (sym (sym (c .before .before .before .before .ask .ensures) ∙ c .before .before .a .given .1))
+returns c = c .line-in .ensures ∙ ap (lineIn _ _ _) (sym (sym (c .before .before .before .before .validate .ensures) ∙ c .before .before .a .given .1))
 
 returns-2 : tie.Need-returns-2
 unfolding lineIn
-returns-2 c = ap (lineIn _ _ _) (sym (sym (c .before .before .before .ask .ensures) ∙ c .before .a2 .given .1))
+returns-2 c = ap (lineIn _ _ _) (sym (sym (c .before .before .before .validate .ensures) ∙ c .before .a2 .given .1))
 
 pub line-at-spec : {M : Type 1} → statement M
 line-at-spec =
     tie.close
-    (tie.spec ask-requires enum-known-a line-in-requires enum-known-a-2 returns returns-2)
+    (tie.spec validate-requires enum-known-a line-in-requires enum-known-a-2 returns returns-2)

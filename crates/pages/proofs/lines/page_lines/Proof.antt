@@ -2,33 +2,33 @@
 -- Assumes nothing.
 use mathlib.Core.Path.{sym, _∙_, ap}
 use Rattle.pages.specs.Answers.{countIn}
-use Rattle.pages.specs.PageLaws.{asked-ready}
+use Rattle.pages.specs.PageLaws.{validated-ready}
 use Rattle.pages.specs.declared.types.CountAnswer.{CountAnswer}
 use borrow.Author.Needs.{needs}
 use Rattle.pages.proofs.lines.page_lines.Statement.{statement}
 use Rattle.pages.proofs.lines.page_lines.Tie as tie
 
-ask-requires : tie.Need-ask-requires
-ask-requires c κs = search needs
+validate-requires : tie.Need-validate-requires
+validate-requires c κs = search needs
 
 enum-known-a : tie.Need-enum-known-a
 enum-known-a c = search needs
 
 count-lines-requires : tie.Need-count-lines-requires
-count-lines-requires c κs = asked-ready _ _ (sym (c .before .before .before .ask .ensures) ∙ c .before .a .given .1)
+count-lines-requires c κs = validated-ready _ _ (sym (c .before .before .before .validate .ensures) ∙ c .before .a .given .1)
 
 enum-known-a-2 : tie.Need-enum-known-a-2
 enum-known-a-2 c = search needs
 
 returns : tie.Need-returns
 unfolding countIn
-returns c = ap CountAnswer.Count (c .count-lines .ensures) ∙ ap (countIn _ _) (sym (sym (c .before .before .before .before .ask .ensures) ∙ c .before .before .a .given .1))
+returns c = ap CountAnswer.Count (c .count-lines .ensures) ∙ ap (countIn _ _) (sym (sym (c .before .before .before .before .validate .ensures) ∙ c .before .before .a .given .1))
 
 returns-2 : tie.Need-returns-2
 unfolding countIn
-returns-2 c = ap (countIn _ _) (sym (sym (c .before .before .before .ask .ensures) ∙ c .before .a2 .given .1))
+returns-2 c = ap (countIn _ _) (sym (sym (c .before .before .before .validate .ensures) ∙ c .before .a2 .given .1))
 
 pub page-lines-spec : {M : Type 1} → statement M
 page-lines-spec =
     tie.close
-    (tie.spec ask-requires enum-known-a count-lines-requires enum-known-a-2 returns returns-2)
+    (tie.spec validate-requires enum-known-a count-lines-requires enum-known-a-2 returns returns-2)

@@ -4,8 +4,8 @@ use Prim.Native.Nat.{ℕ, _+_}
 use mathlib.Core.Path.{_∙_, ap}
 use mathlib.Core.List.{List}
 use lib.ListN.{length}
-use Rattle.records.specs.declared.types.Stretch.{Stretch}
-use Rattle.printing.specs.Printed.{stretch}
+use Rattle.prelude.specs.Bytes.{stretchBytes}
+use Rattle.prelude.specs.declared.slices.Stretch.{Stretch}
 use borrow.Author.Needs.{needs}
 use Rattle.printing.proofs.measures.line_size.Statement.{statement}
 use Rattle.printing.proofs.measures.line_size.Tie as tie
@@ -21,7 +21,7 @@ add-result c = search needs
 
 returns : tie.Need-returns
 returns c =
-    ap (λ (xs : List ℕ). 13 + length xs) (c .part .ensures ∙ ap (λ (s : Stretch). stretch (c .before .before .before .args .file .now) s) (c .before .text-of .ensures))
+    ap (λ (xs : List ℕ). 13 + length xs) (c .part .ensures ∙ ap (λ (s : Stretch). stretchBytes (c .before .before .before .args .file .now) s) (c .before .text-of .ensures))
 
 pub line-size-spec : {M : Type 1} → statement M
 line-size-spec = tie.close (tie.spec text-of-requires part-requires add-result returns)

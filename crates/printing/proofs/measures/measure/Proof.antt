@@ -32,7 +32,7 @@ file c = c .before .before .args .file .now
 abbrev falling : tie.After-f Inv-loop μ-loop → Numbered → Bool
 falling c = fallsOn (c .before .before .args .c) (c .before .before .args .a .facts)
 
-turned : (c : tie.After-place-after Inv-loop μ-loop) → Turn (file (c .before .before .before .before)) (c .before .before .before .loop .n) (c .before .before .before .loop .at)
+turned : (c : tie.After-next-place Inv-loop μ-loop) → Turn (file (c .before .before .before .before)) (c .before .before .before .loop .n) (c .before .before .before .loop .at)
 turned c = turn _ _ _ (c .before .before .before .loop .inv .0) (omega arith)
 
 -- all records that fall on the day are few and small
@@ -60,8 +60,8 @@ loop-holds c = (
   ap (λ (xs : List Numbered). total (lineSize (file c)) (keep (falling c) xs)) (numbered-first (file c)) ∙ sym (zero-add _),
 )
 
-place-after-requires : tie.Need-place-after-requires Inv-loop μ-loop
-place-after-requires c κs = cursor-ahead _ _ _ (c .before .before .loop .inv .0) (omega arith) .entry
+next-place-requires : tie.Need-next-place-requires Inv-loop μ-loop
+next-place-requires c κs = cursor-ahead _ _ _ (c .before .before .loop .inv .0) (omega arith) .entry
 
 add-n : tie.Need-add-n Inv-loop μ-loop
 add-n c = omega arith
@@ -89,7 +89,7 @@ loop-again c =
     let l = c .before .before .before .before .before .before in
     let e = ap (length {A = Numbered}) (one c) in
     let b = added c in
-    rw (add-one (l .loop .n), c .before .before .before .place-after .ensures) (turned (c .before .before .before) .next, omega arith, omega (arith, l .loop .inv .2, e), omega (arith, l .loop .inv .3, b))
+    rw (add-one (l .loop .n), c .before .before .before .next-place .ensures) (turned (c .before .before .before) .next, omega arith, omega (arith, l .loop .inv .2, e), omega (arith, l .loop .inv .3, b))
 
 loop-less-2 : tie.Need-loop-less-2 Inv-loop μ-loop
 loop-less-2 c = omega arith
@@ -101,7 +101,7 @@ loop-again-2 c =
     let k = turn-no (file (l .before)) (l .loop .n) (l .loop .at) t (falling (l .before)) (sym (c .before .falls-at .ensures) ∙ c .if2 .left) in
     let e = ap (length {A = Numbered}) k in
     let b = ap (total (lineSize (file (l .before)))) k in
-    rw (add-one (l .loop .n), c .before .before .place-after .ensures) (t .next, omega arith, omega (arith, l .loop .inv .2, e), omega (arith, l .loop .inv .3, b))
+    rw (add-one (l .loop .n), c .before .before .next-place .ensures) (t .next, omega arith, omega (arith, l .loop .inv .2, e), omega (arith, l .loop .inv .3, b))
 
 returns : tie.Need-returns Inv-loop μ-loop
 returns c =
@@ -118,7 +118,7 @@ measure-spec =
     Inv-loop
     μ-loop
     loop-holds
-    place-after-requires
+    next-place-requires
     add-n
     falls-at-requires
     add-lines

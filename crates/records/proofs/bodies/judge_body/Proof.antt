@@ -21,14 +21,14 @@ returns : tie.Need-returns
 unfolding judgeBody
 returns c = b-no _ _ (lengths-over _ _ (omega arith)) refl
 
-sub-wide : tie.Need-sub-wide
-sub-wide c = omega (arith, fixed-range (c .before .before .before .args .t))
+sub-wide-size : tie.Need-sub-wide-size
+sub-wide-size c = omega (arith, fixed-range (c .before .before .before .args .t))
 
-shared-slice-read-wide : tie.Need-shared-slice-read-wide
-shared-slice-read-wide c = omega (arith, fixed-range (c .before .before .before .before .args .t))
+shared-slice-read-wide-size : tie.Need-shared-slice-read-wide-size
+shared-slice-read-wide-size c = omega (arith, fixed-range (c .before .before .before .before .args .t))
 
-wide-requires : tie.Need-wide-requires
-wide-requires c κs = search needs
+wide-size-requires : tie.Need-wide-size-requires
+wide-size-requires c κs = search needs
 
 sub-word-in : tie.Need-sub-word-in
 sub-word-in c = omega (arith, fixed-range (c .before .before .before .before .before .args .t))
@@ -37,8 +37,8 @@ word-in-requires : tie.Need-word-in-requires
 word-in-requires c κs = omega (arith, fixed-range (c .before .before .before .before .before .args .t))
 
 -- what was read are the body's lengths
-text : (c : tie.After-wide) → c .wide .result ≡ textLength (c .before .before .before .before .before .args .t) (c .before .before .before .before .before .args .p .now)
-text c = c .wide .ensures .0 ∙ ap (λ (k : ℕ). getD (c .before .before .before .before .before .args .p .now) (k - 3) 0) (c .before .before .before .fixed-of .ensures)
+text : (c : tie.After-wide-size) → c .wide-size .result ≡ textLength (c .before .before .before .before .before .args .t) (c .before .before .before .before .before .args .p .now)
+text c = c .wide-size .ensures .0 ∙ ap (λ (k : ℕ). getD (c .before .before .before .before .before .args .p .now) (k - 3) 0) (c .before .before .before .fixed-of .ensures)
 
 note : (c : tie.After-word-in) → c .word-in .result ≡ noteLength (c .before .before .before .before .before .before .args .t) (c .before .before .before .before .before .before .args .p .now)
 note c = c .word-in .ensures ∙ ap (λ (k : ℕ). word (c .before .before .before .before .before .before .args .p .now) (k - 2)) (c .before .before .before .before .fixed-of .ensures)
@@ -97,9 +97,9 @@ judge-body-spec =
     (tie.spec
     fixed-of-requires
     returns
-    sub-wide
-    shared-slice-read-wide
-    wide-requires
+    sub-wide-size
+    shared-slice-read-wide-size
+    wide-size-requires
     sub-word-in
     word-in-requires
     cast-note

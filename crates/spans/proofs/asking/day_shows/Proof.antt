@@ -13,12 +13,12 @@ returns : tie.Need-returns
 unfolding dayShows
 returns c = search picks depth 25 fits 3000
 
-is-same-requires : tie.Need-is-same-requires
-is-same-requires c κs = search needs
+is-same-wide-requires : tie.Need-is-same-wide-requires
+is-same-wide-requires c κs = search needs
 
 returns-2 : tie.Need-returns-2
 unfolding dayShows
 returns-2 c = search picks depth 25 fits 3000
 
 pub day-shows-spec : {M : Type 1} → statement M
-day-shows-spec = tie.close (tie.spec missing-shows-requires returns is-same-requires returns-2)
+day-shows-spec = tie.close (tie.spec missing-shows-requires returns is-same-wide-requires returns-2)

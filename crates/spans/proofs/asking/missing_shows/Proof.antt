@@ -11,8 +11,8 @@ enum-told c = search needs
 enum-told-2 : tie.Need-enum-told-2
 enum-told-2 c = search needs
 
-is-same-requires : tie.Need-is-same-requires
-is-same-requires c κs = search needs
+is-same-wide-requires : tie.Need-is-same-wide-requires
+is-same-wide-requires c κs = search needs
 
 returns : tie.Need-returns
 unfolding missingShows
@@ -23,4 +23,4 @@ unfolding missingShows
 returns-2 c = cc
 
 pub missing-shows-spec : {M : Type 1} → statement M
-missing-shows-spec = tie.close (tie.spec enum-told enum-told-2 is-same-requires returns returns-2)
+missing-shows-spec = tie.close (tie.spec enum-told enum-told-2 is-same-wide-requires returns returns-2)

@@ -6,8 +6,8 @@ use borrow.Author.Needs.{needs}
 use Rattle.spans.proofs.asking.on_date.Statement.{statement}
 use Rattle.spans.proofs.asking.on_date.Tie as tie
 
-is-same-requires : tie.Need-is-same-requires
-is-same-requires c κs = search needs
+is-same-wide-requires : tie.Need-is-same-wide-requires
+is-same-wide-requires c κs = search needs
 
 returns : tie.Need-returns
 unfolding onDate
@@ -50,7 +50,7 @@ pub on-date-spec : {M : Type 1} → statement M
 on-date-spec =
     tie.close
     (tie.spec
-    is-same-requires
+    is-same-wide-requires
     returns
     returns-2
     day-shows-requires

@@ -5,11 +5,11 @@ use borrow.Author.Needs.{needs}
 use Rattle.spans.proofs.asking.position_shows.Statement.{statement}
 use Rattle.spans.proofs.asking.position_shows.Tie as tie
 
-add-is-same : tie.Need-add-is-same
-add-is-same c = search needs
+add-is-same-wide : tie.Need-add-is-same-wide
+add-is-same-wide c = search needs
 
-is-same-requires : tie.Need-is-same-requires
-is-same-requires c κs = search needs
+is-same-wide-requires : tie.Need-is-same-wide-requires
+is-same-wide-requires c κs = search needs
 
 returns : tie.Need-returns
 returns c = search picks depth 25 fits 3000
@@ -18,4 +18,4 @@ returns-2 : tie.Need-returns-2
 returns-2 c = search picks depth 25 fits 3000
 
 pub position-shows-spec : {M : Type 1} → statement M
-position-shows-spec = tie.close (tie.spec add-is-same is-same-requires returns returns-2)
+position-shows-spec = tie.close (tie.spec add-is-same-wide is-same-wide-requires returns returns-2)

@@ -18,14 +18,14 @@ low-requires-2 c κs = search needs
 high-requires-2 : tie.Need-high-requires-2
 high-requires-2 c κs = search needs
 
-flag-requires : tie.Need-flag-requires
-flag-requires c κs = search needs
+bit-of-requires : tie.Need-bit-of-requires
+bit-of-requires c κs = search needs
 
 small-requires : tie.Need-small-requires
 small-requires c κs = search needs
 
-flag-requires-2 : tie.Need-flag-requires-2
-flag-requires-2 c κs = search needs
+bit-of-requires-2 : tie.Need-bit-of-requires-2
+bit-of-requires-2 c κs = search needs
 
 returns : tie.Need-returns
 unfolding openBytes le16
@@ -39,7 +39,7 @@ open-bytes-spec =
     high-requires
     low-requires-2
     high-requires-2
-    flag-requires
+    bit-of-requires
     small-requires
-    flag-requires-2
+    bit-of-requires-2
     returns)

@@ -21,8 +21,8 @@ low-requires c κs = search needs
 high-requires : tie.Need-high-requires
 high-requires c κs = search needs
 
-flag-requires : tie.Need-flag-requires
-flag-requires c κs = search needs
+bit-of-requires : tie.Need-bit-of-requires
+bit-of-requires c κs = search needs
 
 year-requires : tie.Need-year-requires
 year-requires c κs = search needs
@@ -69,7 +69,7 @@ dated-head-spec =
     add-l-2
     low-requires
     high-requires
-    flag-requires
+    bit-of-requires
     year-requires
     small-requires
     small-requires-2

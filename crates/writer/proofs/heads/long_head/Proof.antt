@@ -18,8 +18,8 @@ low-requires c κs = search needs
 high-requires : tie.Need-high-requires
 high-requires c κs = search needs
 
-flag-requires : tie.Need-flag-requires
-flag-requires c κs = search needs
+bit-of-requires : tie.Need-bit-of-requires
+bit-of-requires c κs = search needs
 
 small-requires : tie.Need-small-requires
 small-requires c κs = search needs
@@ -81,7 +81,7 @@ long-head-spec =
     add-l-2
     low-requires
     high-requires
-    flag-requires
+    bit-of-requires
     small-requires
     small-requires-2
     high-requires-2

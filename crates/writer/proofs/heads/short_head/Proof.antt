@@ -18,8 +18,8 @@ low-requires c κs = search needs
 high-requires : tie.Need-high-requires
 high-requires c κs = search needs
 
-flag-requires : tie.Need-flag-requires
-flag-requires c κs = search needs
+bit-of-requires : tie.Need-bit-of-requires
+bit-of-requires c κs = search needs
 
 small-requires : tie.Need-small-requires
 small-requires c κs = search needs
@@ -78,7 +78,7 @@ short-head-spec =
     add-l-2
     low-requires
     high-requires
-    flag-requires
+    bit-of-requires
     small-requires
     high-requires-2
     low-requires-2

@@ -14,8 +14,8 @@ add-l c = search needs
 add-l-2 : tie.Need-add-l-2
 add-l-2 c = search needs
 
-flag-requires : tie.Need-flag-requires
-flag-requires c κs = search needs
+bit-of-requires : tie.Need-bit-of-requires
+bit-of-requires c κs = search needs
 
 low-requires : tie.Need-low-requires
 low-requires c κs = search needs
@@ -57,7 +57,7 @@ to-do-bytes-spec =
     (tie.spec
     add-l
     add-l-2
-    flag-requires
+    bit-of-requires
     low-requires
     high-requires
     add-t13

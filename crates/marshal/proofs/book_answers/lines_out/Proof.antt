@@ -1,0 +1,23 @@
+-- `lines_out` meets its contract: each arm is a clause of its definition.
+-- Assumes nothing.
+use Rattle.marshal.specs.BookAnswers.{linesOut}
+use borrow.Author.Needs.{needs}
+use Rattle.marshal.proofs.book_answers.lines_out.Statement.{statement}
+use Rattle.marshal.proofs.book_answers.lines_out.Tie as tie
+
+enum-known-a : tie.Need-enum-known-a
+enum-known-a c = search needs
+
+enum-known-a-2 : tie.Need-enum-known-a-2
+enum-known-a-2 c = search needs
+
+returns : tie.Need-returns
+unfolding linesOut
+returns c = cc
+
+returns-2 : tie.Need-returns-2
+unfolding linesOut
+returns-2 c = cc
+
+pub lines-out-spec : {M : Type 1} → statement M
+lines-out-spec = tie.close (tie.spec enum-known-a enum-known-a-2 returns returns-2)

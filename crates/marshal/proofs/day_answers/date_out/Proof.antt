@@ -1,0 +1,23 @@
+-- `date_out` meets its contract: each arm is a clause of `dateOut`.
+-- Assumes nothing.
+use Rattle.marshal.specs.DayAnswers.{dateOut}
+use borrow.Author.Needs.{needs}
+use Rattle.marshal.proofs.day_answers.date_out.Statement.{statement}
+use Rattle.marshal.proofs.day_answers.date_out.Tie as tie
+
+enum-known-a : tie.Need-enum-known-a
+enum-known-a c = search needs
+
+enum-known-a-2 : tie.Need-enum-known-a-2
+enum-known-a-2 c = search needs
+
+returns : tie.Need-returns
+unfolding dateOut
+returns c = cc
+
+returns-2 : tie.Need-returns-2
+unfolding dateOut
+returns-2 c = cc
+
+pub date-out-spec : {M : Type 1} → statement M
+date-out-spec = tie.close (tie.spec enum-known-a enum-known-a-2 returns returns-2)

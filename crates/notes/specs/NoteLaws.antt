@@ -1,0 +1,160 @@
+-- The laws of text and note as they are read byte by byte: how a line ends, and what the rule makes of it.
+-- Assumes nothing.
+use Prim.Native.Nat.{ℕ, suc, _+_, _-_, _<_, _≤_}
+use mathlib.Core.Path.{_≡_, refl, sym, ap, _∙_}
+use mathlib.Core.Bool.{Bool, true, false}
+use mathlib.Core.List.{List, [], _∷_}
+use native.Mathlib.Omega.{arith}
+use native.Mathlib.Numerals.{add-one}
+use borrow.Author.Tests.{le-leb, lt-leb}
+use lib.Dec.{leb}
+use lib.ListN.{length, take, drop, length-drop, drop-of-length-le}
+use lib.Seq.{drop-cons, drop-drop, length-take-le}
+use Rattle.prelude.specs.Choice.{ifLt, is-lt, is-ge, is-eq, is-ne, lt-elim, eq-elim}
+use Rattle.prelude.specs.Bytes.{byte, part}
+use Rattle.notes.specs.Notes.{noZero, inFront, linesOf, shortLines, noteOk}
+use Rattle.notes.specs.Lines.{toZero}
+
+-- A byte is zero or it is not.
+pub zero-or-not : {P : Type 0} (x : ℕ) → (x ≡ 0 → P) → ((x ≡ 0 → ⊥) → P) → P
+zero-or-not {P} x f g = eq-elim {X = Unit {0}} (λ _. P) x 0 tt tt f g
+
+-- The lines, and the way to the first zero: of nothing, where a zero comes first, where another byte does.
+pub lines-nil : linesOf [] ≡ []
+unfolding linesOf
+lines-nil = refl
+
+pub lines-zero : (x : ℕ) (xs : List ℕ) → x ≡ 0 → linesOf (x ∷ xs) ≡ [] ∷ linesOf xs
+unfolding linesOf
+lines-zero x xs z = is-eq z _ _
+
+pub lines-other : (x : ℕ) (xs : List ℕ) → (x ≡ 0 → ⊥) → linesOf (x ∷ xs) ≡ inFront x (linesOf xs)
+unfolding linesOf
+lines-other x xs n = is-ne n _ _
+
+pub to-zero-nil : toZero [] ≡ 0
+unfolding toZero
+to-zero-nil = refl
+
+pub to-zero-zero : (x : ℕ) (xs : List ℕ) → x ≡ 0 → toZero (x ∷ xs) ≡ 0
+unfolding toZero
+to-zero-zero x xs z = is-eq z _ _
+
+pub to-zero-other : (x : ℕ) (xs : List ℕ) → (x ≡ 0 → ⊥) → toZero (x ∷ xs) ≡ suc (toZero xs)
+unfolding toZero
+to-zero-other x xs n = is-ne n _ _
+
+pub to-zero-le : (xs : List ℕ) → toZero xs ≤ length xs
+to-zero-le [] = rw to-zero-nil (omega arith)
+to-zero-le (x ∷ xs) =
+    zero-or-not x (λ z. rw (to-zero-zero x xs z) (omega arith)) (λ n. rw (to-zero-other x xs n) (let l = to-zero-le xs in omega arith))
+
+-- The first line is what stands before the first zero, and the others are the lines of what stands behind it.
+pub first-line : (xs : List ℕ) → 0 < length xs → linesOf xs ≡ take (toZero xs) xs ∷ linesOf (drop (suc (toZero xs)) xs)
+first-line [] h = absurd (omega arith)
+first-line (x ∷ []) h =
+    zero-or-not x (λ z. rw (lines-zero x [] z, to-zero-zero x [] z))
+    (λ n. rw (lines-other x [] n, to-zero-other x [] n, to-zero-nil, lines-nil))
+first-line (x ∷ (y ∷ ys)) h =
+    zero-or-not x (λ z. rw (lines-zero x (y ∷ ys) z, to-zero-zero x (y ∷ ys) z))
+    (λ n. rw (lines-other x (y ∷ ys) n, to-zero-other x (y ∷ ys) n, first-line (y ∷ ys) (omega arith)))
+
+-- The rule of the lines where k short ones lie behind and ls are left.
+unfoldable pub judged : ℕ → List (List ℕ) → Bool
+judged k ls = ifLt 11 (k + length ls) false (shortLines ls)
+
+pub note-long : (n : List ℕ) → 440 < length n → noteOk n ≡ false
+unfolding noteOk
+note-long n h = is-lt h _ _
+
+pub note-judged : (n : List ℕ) → length n ≤ 440 → noteOk n ≡ judged 0 (linesOf n)
+unfolding noteOk judged
+note-judged n h = is-ge h _ _ ∙ ap (λ m. ifLt 11 m false (shortLines (linesOf n))) (omega arith)
+
+judged-long : (k : ℕ) (l : List ℕ) (ls : List (List ℕ)) → 39 < length l → judged k (l ∷ ls) ≡ false
+unfolding judged shortLines
+judged-long k l ls h = lt-elim (λ z. z ≡ false) 11 _ _ _ (λ _. refl) (λ _. is-lt h _ _)
+
+judged-short : (k : ℕ) (l : List ℕ) (ls : List (List ℕ)) → length l ≤ 39 → judged k (l ∷ ls) ≡ judged (k + 1) ls
+unfolding judged shortLines
+judged-short k l ls h = rw (is-ge h) (ap (λ m. ifLt 11 m false (shortLines ls)) (omega arith))
+
+judged-nil : (k : ℕ) → judged k [] ≡ leb k 11
+unfolding judged shortLines
+judged-nil k = lt-elim (λ z. z ≡ leb k 11) 11 _ _ _ (λ h. sym (lt-leb k 11 (omega arith))) (λ h. sym (le-leb k 11 (omega arith)))
+
+-- No zero stands from start up to i: the line that begins at start has not ended before i.
+pub record Within (s : List ℕ) (start i : ℕ) : Type 0 where
+  pub order : start ≤ i
+  pub same : toZero (drop start s) ≡ (i - start) + toZero (drop i s)
+
+pub within-start : (s : List ℕ) (start : ℕ) → Within s start start
+within-start s start = record { order = omega arith; same = omega arith }
+
+-- The byte at i, or the end.
+pub zero-here : (s : List ℕ) (i : ℕ) → i < length s → byte s i ≡ 0 → toZero (drop i s) ≡ 0
+zero-here s i h z = rw (drop-cons s i 0 h) (to-zero-zero _ _ z)
+
+pub end-here : (s : List ℕ) (i : ℕ) → length s ≤ i → toZero (drop i s) ≡ 0
+end-here s i h = rw (drop-of-length-le s h) to-zero-nil
+
+pub within-next : {s : List ℕ} {start i : ℕ} → Within s start i → i < length s → (byte s i ≡ 0 → ⊥) → Within s start (i + 1)
+within-next {s} {start} {i} w h n =
+    let e : toZero (drop i s) ≡ suc (toZero (drop (i + 1) s)) = rw (drop-cons s i 0 h, add-one i) (to-zero-other _ _ n) in
+    record { order = omega arith; same = omega arith }
+
+-- One byte on, to a place that is named.
+pub within-step : {s : List ℕ} {start i : ℕ} (j : ℕ) → j ≡ i + 1 → Within s start i → i < length s → (byte s i ≡ 0 → ⊥) → Within s start j
+within-step j e w h n = rw e (within-next w h n)
+
+-- The line ends at i, by a zero or with the note.
+pub within-zero : {s : List ℕ} {start i : ℕ} → Within s start i → i < length s → byte s i ≡ 0 → toZero (drop start s) ≡ i - start
+within-zero {s} {start} {i} w h z = let e = zero-here s i h z in omega (arith, w .same)
+
+pub within-end : {s : List ℕ} {start i : ℕ} → Within s start i → length s ≤ i → toZero (drop start s) ≡ i - start
+within-end {s} {start} {i} w h = let e = end-here s i h in omega (arith, w .same)
+
+-- A line of n bytes begins at start.
+pub record Line (s : List ℕ) (start n : ℕ) : Type 0 where
+  pub begun : start < length s
+  pub all : n ≡ toZero (drop start s)
+
+module _ {s : List ℕ} {start n : ℕ} (e : Line s start n) where
+  pub line-fits : start + n ≤ length s
+  line-fits = omega (arith, to-zero-le (drop start s), length-drop start s)
+
+  line-ends : linesOf (drop start s) ≡ part s start n ∷ linesOf (drop (start + n + 1) s)
+  line-ends =
+      let m : start + suc n ≡ start + n + 1 = omega arith in
+      first-line (drop start s) (rw (length-drop start s) (omega arith)) ∙ rw (← (e .all), drop-drop (suc n) start s, m)
+
+  line-long : length (part s start n) ≡ n
+  line-long = length-take-le n (drop start s) (rw (length-drop start s) (let f = line-fits in omega arith))
+
+  pub count-next : length (linesOf (drop start s)) ≡ suc (length (linesOf (drop (start + n + 1) s)))
+  count-next = ap length line-ends
+
+  pub judged-next : (k : ℕ) → n ≤ 39 → judged k (linesOf (drop start s)) ≡ judged (k + 1) (linesOf (drop (start + n + 1) s))
+  judged-next k h = rw line-ends (judged-short k _ _ (rw line-long h))
+
+  pub judged-over : (k : ℕ) → 39 < n → judged k (linesOf (drop start s)) ≡ false
+  judged-over k h = rw line-ends (judged-long k _ _ (rw line-long h))
+
+pub lines-end : (s : List ℕ) (i : ℕ) → length s ≤ i → linesOf (drop i s) ≡ []
+lines-end s i h = rw (drop-of-length-le s h) lines-nil
+
+pub judged-end : (s : List ℕ) (i k : ℕ) → length s ≤ i → judged k (linesOf (drop i s)) ≡ leb k 11
+judged-end s i k h = rw (lines-end s i h) (judged-nil k)
+
+-- A text, from place i on.
+pub clean-zero : (s : List ℕ) (i : ℕ) → i < length s → byte s i ≡ 0 → noZero (drop i s) ≡ false
+unfolding noZero
+clean-zero s i h z = rw (drop-cons s i 0 h) (is-eq z _ _)
+
+pub clean-other : (s : List ℕ) (i : ℕ) → i < length s → (byte s i ≡ 0 → ⊥) → noZero (drop i s) ≡ noZero (drop (i + 1) s)
+unfolding noZero
+clean-other s i h n = rw (drop-cons s i 0 h, add-one i) (is-ne n _ _)
+
+pub clean-end : (s : List ℕ) (i : ℕ) → length s ≤ i → noZero (drop i s) ≡ true
+unfolding noZero
+clean-end s i h = rw (drop-of-length-le s h)

@@ -1,0 +1,3 @@
+// The rules of a record's text and note, document 01 "Ranges", and the lines of a note.
+pub mod lines;
+pub mod rules;

@@ -1,0 +1,9 @@
+// What measuring an export gives.
+
+// The file's length, its descriptors and its appointments, and whether a block would start at block 32,768 or later.
+pub struct Measure {
+    pub length: usize,
+    pub descriptors: usize,
+    pub appointments: usize,
+    pub past_last_block: bool,
+}
