@@ -7,6 +7,7 @@
 //! record falls; `fuzz`, hostile inputs for every call and for the program; `callgrind`, which counts
 //! instructions.
 
+pub mod across_c;
 pub mod book;
 pub mod books;
 pub mod calendar;

@@ -42,7 +42,7 @@ type Open = fn(Settings, &mut [u8]) -> Result<Writer, Refusal>;
 type Add = fn(Writer, &mut [u8], NewRecord) -> Result<Writer, Refusal>;
 type Close = fn(Writer, &mut [u8]) -> Result<Writer, Refusal>;
 
-fn hidden_calls() -> (Open, Add, Close) {
+pub fn hidden_calls() -> (Open, Add, Close) {
     (black_box(plain::open), black_box(plain::add), black_box(plain::close))
 }
 
