@@ -2,6 +2,7 @@
 
 mod damage;
 mod drafts;
+mod edges;
 mod near;
 mod spans;
 
@@ -10,6 +11,7 @@ use crate::rng::Rng;
 pub use damage::{changes, Change, DAMAGES};
 use drafts::low_first;
 pub use drafts::{full_note, letters, Draft, Field, File, SETTINGS};
+pub use edges::edge_notes;
 pub use near::{book_near, edge_day, near};
 pub use spans::{book_of_span, crowded, Span, CROWDED_SPAN};
 

@@ -1,7 +1,7 @@
 //! The proved book reader against the plain one: every field of every answer, refusals too.
 
 use reference::book as plain;
-use reference::books::{changes, long, small, Cases, Draft, File, DAMAGES, SETTINGS};
+use reference::books::{changes, edge_notes, long, small, Cases, Draft, File, DAMAGES, SETTINGS};
 use reference::ffi::book::{self as proved, BookAnswer, LineAnswer, LinesAnswer, RecordAnswer};
 use reference::notes;
 use reference::records::Record;
@@ -307,6 +307,22 @@ fn every_change() {
             compare(&file, "settings");
         }
     }
+}
+
+#[test]
+fn notes_at_their_edges() {
+    let mut rng = Rng::for_test("notes_at_their_edges");
+    let (mut right, mut wrong) = (0, 0);
+    for note in edge_notes() {
+        let record = Draft { note, ..small(rng.within(1..=6) as u8, &mut rng) };
+        let file = File::random(&[record], &mut rng).bytes;
+        compare(&file, "a note at an edge");
+        match plain::read_book(&file) {
+            Ok(_) => right += 1,
+            Err(refusal) => wrong += usize::from(refusal.number == 8),
+        }
+    }
+    assert!(right > 1_000 && wrong > 1_000, "{right} right, {wrong} wrong");
 }
 
 #[test]

@@ -2,9 +2,10 @@
 //! of the buffer and around it after each call.
 
 use reference::book as plain_book;
-use reference::books::{long, small, Cases};
+use reference::books::{edge_notes, long, small, Cases, Draft};
 use reference::ffi::book::{self as reader, BookAnswer, RecordAnswer};
 use reference::ffi::writer::{self as proved, WriterAnswer};
+use reference::notes;
 use reference::records::Record;
 use reference::rng::Rng;
 use reference::vectors::{every_kind, every_kind_records, EVERY_KIND_WRITTEN, WHOLE_CASE};
@@ -282,6 +283,23 @@ fn every_room() {
             assert_eq!(numbers.iter().all(|&number| number == 0), room >= exact);
         }
     }
+}
+
+#[test]
+fn notes_at_their_edges() {
+    let mut rng = Rng::for_test("notes_at_their_edges");
+    let mut numbers = [0; 15];
+    for note in edge_notes() {
+        let draft = small(rng.within(1..=6) as u8, &mut rng);
+        let item = if notes::is_right(&note) {
+            Item::new(&Draft { note, ..draft })
+        } else {
+            Item { note, faults: vec![("note".into(), 8)], ..Item::new(&draft) }
+        };
+        let added = compare(&run("a note at an edge", 1_000, &[item], SETTINGS), &mut rng)[1];
+        numbers[added as usize] += 1;
+    }
+    assert!(numbers[0] > 1_000 && numbers[8] > 1_000, "{numbers:?}");
 }
 
 /// Every number of bytes used that is near an edge, for each kind.

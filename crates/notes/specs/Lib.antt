@@ -3,4 +3,5 @@ pub mod Notes
 pub mod Lines
 pub mod NoteLaws
 pub mod LineLaws
+pub mod RuleLaws
 pub mod NoteExamples

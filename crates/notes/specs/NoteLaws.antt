@@ -1,18 +1,16 @@
--- The laws of text and note as they are read byte by byte: how a line ends, and what the rule makes of it.
+-- The laws of text and note as they are read byte by byte: how a line ends, and what is left behind it.
 -- Assumes nothing.
 use Prim.Native.Nat.{ℕ, suc, _+_, _-_, _<_, _≤_}
-use mathlib.Core.Path.{_≡_, refl, sym, ap, _∙_}
-use mathlib.Core.Bool.{Bool, true, false}
+use mathlib.Core.Path.{_≡_, refl, ap, _∙_}
+use mathlib.Core.Bool.{true, false}
 use mathlib.Core.List.{List, [], _∷_}
 use native.Mathlib.Omega.{arith}
 use native.Mathlib.Numerals.{add-one}
-use borrow.Author.Tests.{le-leb, lt-leb}
-use lib.Dec.{leb}
 use lib.ListN.{length, take, drop, length-drop, drop-of-length-le}
-use lib.Seq.{drop-cons, drop-drop, length-take-le}
-use Rattle.prelude.specs.Choice.{ifLt, is-lt, is-ge, is-eq, is-ne, lt-elim, eq-elim}
+use lib.Seq.{drop-cons, drop-drop}
+use Rattle.prelude.specs.Choice.{is-eq, is-ne, eq-elim}
 use Rattle.prelude.specs.Bytes.{byte, part}
-use Rattle.notes.specs.Notes.{noZero, inFront, linesOf, shortLines, noteOk}
+use Rattle.notes.specs.Notes.{noZero, inFront, linesOf}
 use Rattle.notes.specs.Lines.{toZero}
 
 -- A byte is zero or it is not.
@@ -59,30 +57,6 @@ first-line (x ∷ (y ∷ ys)) h =
     zero-or-not x (λ z. rw (lines-zero x (y ∷ ys) z, to-zero-zero x (y ∷ ys) z))
     (λ n. rw (lines-other x (y ∷ ys) n, to-zero-other x (y ∷ ys) n, first-line (y ∷ ys) (omega arith)))
 
--- The rule of the lines where k short ones lie behind and ls are left.
-unfoldable pub judged : ℕ → List (List ℕ) → Bool
-judged k ls = ifLt 11 (k + length ls) false (shortLines ls)
-
-pub note-long : (n : List ℕ) → 440 < length n → noteOk n ≡ false
-unfolding noteOk
-note-long n h = is-lt h _ _
-
-pub note-judged : (n : List ℕ) → length n ≤ 440 → noteOk n ≡ judged 0 (linesOf n)
-unfolding noteOk judged
-note-judged n h = is-ge h _ _ ∙ ap (λ m. ifLt 11 m false (shortLines (linesOf n))) (omega arith)
-
-judged-long : (k : ℕ) (l : List ℕ) (ls : List (List ℕ)) → 39 < length l → judged k (l ∷ ls) ≡ false
-unfolding judged shortLines
-judged-long k l ls h = lt-elim (λ z. z ≡ false) 11 _ _ _ (λ _. refl) (λ _. is-lt h _ _)
-
-judged-short : (k : ℕ) (l : List ℕ) (ls : List (List ℕ)) → length l ≤ 39 → judged k (l ∷ ls) ≡ judged (k + 1) ls
-unfolding judged shortLines
-judged-short k l ls h = rw (is-ge h) (ap (λ m. ifLt 11 m false (shortLines ls)) (omega arith))
-
-judged-nil : (k : ℕ) → judged k [] ≡ leb k 11
-unfolding judged shortLines
-judged-nil k = lt-elim (λ z. z ≡ leb k 11) 11 _ _ _ (λ h. sym (lt-leb k 11 (omega arith))) (λ h. sym (le-leb k 11 (omega arith)))
-
 -- No zero stands from start up to i: the line that begins at start has not ended before i.
 pub record Within (s : List ℕ) (start i : ℕ) : Type 0 where
   pub order : start ≤ i
@@ -128,23 +102,11 @@ module _ {s : List ℕ} {start n : ℕ} (e : Line s start n) where
       let m : start + suc n ≡ start + n + 1 = omega arith in
       first-line (drop start s) (rw (length-drop start s) (omega arith)) ∙ rw (← (e .all), drop-drop (suc n) start s, m)
 
-  line-long : length (part s start n) ≡ n
-  line-long = length-take-le n (drop start s) (rw (length-drop start s) (let f = line-fits in omega arith))
-
   pub count-next : length (linesOf (drop start s)) ≡ suc (length (linesOf (drop (start + n + 1) s)))
   count-next = ap length line-ends
 
-  pub judged-next : (k : ℕ) → n ≤ 39 → judged k (linesOf (drop start s)) ≡ judged (k + 1) (linesOf (drop (start + n + 1) s))
-  judged-next k h = rw line-ends (judged-short k _ _ (rw line-long h))
-
-  pub judged-over : (k : ℕ) → 39 < n → judged k (linesOf (drop start s)) ≡ false
-  judged-over k h = rw line-ends (judged-long k _ _ (rw line-long h))
-
 pub lines-end : (s : List ℕ) (i : ℕ) → length s ≤ i → linesOf (drop i s) ≡ []
 lines-end s i h = rw (drop-of-length-le s h) lines-nil
-
-pub judged-end : (s : List ℕ) (i k : ℕ) → length s ≤ i → judged k (linesOf (drop i s)) ≡ leb k 11
-judged-end s i k h = rw (lines-end s i h) (judged-nil k)
 
 -- A text, from place i on.
 pub clean-zero : (s : List ℕ) (i : ℕ) → i < length s → byte s i ≡ 0 → noZero (drop i s) ≡ false

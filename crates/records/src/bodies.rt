@@ -22,7 +22,7 @@ use crate::ranges::to_do_ok;
 use crate::ranges::weekly_ok;
 use crate::ranges::yearly_ok;
 use notes::rules::no_zero;
-use notes::rules::note_ok;
+use notes::rules::note_ok_at;
 use prelude::numbers::wide_size;
 use prelude::refusals::BAD_FIELD;
 use prelude::refusals::BAD_LENGTH;
@@ -60,9 +60,8 @@ fn texts_ok(p: &[u8], fixed: usize, text: usize, note: usize) -> bool
         ⌜ r ≡ ifB (noZero (part (now (p .entry)) fixed text)) (noteOk (part (now (p .entry)) (fixed + text) note)) false ⌝ }
 {
     let middle = fixed + text;
-    let end = middle + note;
     if no_zero(&p[fixed..middle]) {
-        return note_ok(&p[middle..end]);
+        return note_ok_at(p, middle, note);
     }
     false
 }

@@ -2,7 +2,7 @@
 
 use super::{again, hidden, kept, row, Cells, Row};
 use reference::book as plain;
-use reference::books::{long, small, File};
+use reference::books::{long, small, Draft, File};
 use reference::ffi::book as proved;
 use reference::rng::Rng;
 use reference::vectors::{every_kind, WHOLE_CASE};
@@ -33,6 +33,20 @@ fn full_of_small() -> &'static [u8] {
 fn full_of_long() -> &'static [u8] {
     let mut rng = Rng::new(1);
     kept(File::full(plain::LONGEST, || long(1, &mut rng)).bytes)
+}
+
+/// Of 65,535 bytes: records of all kinds, with texts, notes and padding of any length.
+fn full_of_any() -> &'static [u8] {
+    let mut rng = Rng::new(1);
+    kept(File::full(plain::LONGEST, || Draft::random(rng.within(1..=6) as u8, &mut rng)).bytes)
+}
+
+/// Of 65,535 bytes: dated records whose notes have an empty line and one of 39 bytes in turn.
+fn full_of_turns() -> &'static [u8] {
+    let mut rng = Rng::new(1);
+    let turn = [&[0], &[b'x'; 39][..], &[0]].concat();
+    let note = [&turn.repeat(5)[..], &[0]].concat();
+    kept(File::full(plain::LONGEST, || Draft { note: note.clone(), ..small(1, &mut rng) }).bytes)
 }
 
 fn records(file: &[u8]) -> usize {
@@ -86,6 +100,8 @@ pub fn rows() -> Vec<Row> {
         reading("the case, 33 bytes", case, false),
         reading("full, 3,747 small records", full_of_small, true),
         reading("full, 135 long records", full_of_long, false),
+        reading("full, any texts and notes", full_of_any, false),
+        reading("full, empty and full lines", full_of_turns, false),
         one_record("of the case", case),
         one_record("last of 3,747 small ones", full_of_small),
         one_record("last of 135 long ones", full_of_long),

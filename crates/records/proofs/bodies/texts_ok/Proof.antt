@@ -1,7 +1,6 @@
 -- `texts_ok` meets its contract: the two rules, on the stretches where text and note lie.
 -- Assumes nothing.
 use mathlib.Core.Path.{refl}
-use Prim.Native.Nat.{_+_}
 use native.Mathlib.Nat.{add-sub-cancel-left}
 use Rattle.prelude.specs.Choice.{by-yes, by-no}
 use borrow.Author.Needs.{needs}
@@ -10,9 +9,6 @@ use Rattle.records.proofs.bodies.texts_ok.Tie as tie
 
 add-middle : tie.Need-add-middle
 add-middle c = search needs
-
-add-end : tie.Need-add-end
-add-end c = search needs
 
 sub-no-zero : tie.Need-sub-no-zero
 sub-no-zero c = search needs
@@ -26,23 +22,13 @@ part-no-zero-end c = search needs
 no-zero-requires : tie.Need-no-zero-requires
 no-zero-requires c κs = search needs
 
-sub-note-ok : tie.Need-sub-note-ok
-sub-note-ok c = search needs
-
-part-note-ok-start : tie.Need-part-note-ok-start
-part-note-ok-start c = search needs
-
-part-note-ok-end : tie.Need-part-note-ok-end
-part-note-ok-end c = search needs
-
-note-ok-requires : tie.Need-note-ok-requires
-note-ok-requires c κs = search needs
+note-ok-at-requires : tie.Need-note-ok-at-requires
+note-ok-at-requires c κs = search needs
 
 returns : tie.Need-returns
 returns c =
-    let a = c .before .before .before .before .before .before .args in
-    by-yes _ _ _ (cc (add-sub-cancel-left (a .fixed) (a .text))) (c .before .before .if1 .taken)
-    (cc (add-sub-cancel-left (a .fixed + a .text) (a .note)))
+    let a = c .before .before .before .before .before .args in
+    by-yes _ _ _ (cc (add-sub-cancel-left (a .fixed) (a .text))) (c .before .if1 .taken) (c .note-ok-at .ensures)
 
 returns-2 : tie.Need-returns-2
 returns-2 c =
@@ -54,14 +40,10 @@ texts-ok-spec =
     tie.close
     (tie.spec
     add-middle
-    add-end
     sub-no-zero
     part-no-zero-start
     part-no-zero-end
     no-zero-requires
-    sub-note-ok
-    part-note-ok-start
-    part-note-ok-end
-    note-ok-requires
+    note-ok-at-requires
     returns
     returns-2)
