@@ -24,7 +24,7 @@ use Rattle.export.specs.Export.{appointmentOf, appointmentsFor, daysWith, shows
 use Rattle.export.specs.RecordLaws.{GoodBook}
 use Rattle.calendar.specs.FileLaws.{length-appointment, length-table}
 use Rattle.export.specs.SpanLaws.{days-few}
-use Rattle.spans.specs.Codes.{Spanned, Days}
+use Rattle.spans.specs.Codes.{Spanned}
 use Rattle.pieces.specs.Sums.{Sums, sumTable, rows, unitsTo, noneYet}
 use Rattle.pieces.specs.Scatter.{Added, Roomy, scatter}
 use Rattle.exporting.specs.Passes.{Counted, Sound, marked, keptIn, Weighed, soFar}
@@ -82,9 +82,6 @@ unfolding decode
 decode-place f v = place-at f (v % 65536)
 
 module _ {f : List ℕ} {c : ShortMonth} {first : ℕ} {days sums codes : List ℕ} (r : Ready f c first days sums codes) where
-  pub ready-days : Days days
-  ready-days = record { first = first; spanned = r .span }
-
   -- the record of a code
   page-member : (p : Numbered → Bool) {x : Numbered} → List·Memᴰ x (pageOf p f) → List·Memᴰ x (numbered f)
   unfolding pageOf

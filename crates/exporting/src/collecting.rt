@@ -9,7 +9,7 @@ ghost use Rattle.book.specs.Books.{entryAt};
 ghost use Rattle.pages.specs.Pages.{numbered};
 ghost use Rattle.pages.specs.PageLaws.{recordAt};
 ghost use Rattle.pages.specs.Codes.{code};
-ghost use Rattle.spans.specs.Codes.{Days};
+ghost use Rattle.spans.specs.Codes.{Spanned, Days};
 ghost use Rattle.spans.specs.Rules.{ruleOf, ruleShows};
 ghost use Rattle.spans.specs.Next.{Next};
 ghost use Rattle.pieces.specs.Scatter.{Added};
@@ -24,6 +24,7 @@ use prelude::slices::part;
 use prelude::slices::word;
 use spans::hits::next_after;
 use spans::hits::next_from;
+use spans::hits::on_to;
 use spans::reading::rule_of;
 use spans::types::Rule;
 
@@ -96,17 +97,18 @@ fn take_in(
     code_of(times.start.0, number, at)
 }
 
-// The codes of the records that show on a day of the span, in the book's order, and the sums of its days, which were 0.
+// The codes of the records that show on a day of the span from day `first` on, in the book's order, and the sums of its days, which were 0.
 pub fn collect(
     file: &[u8],
     records: usize,
     c: ShortMonth,
+    first: usize,
     days: &[u32],
     codes: &mut [u64],
     sums: &mut [u64],
 ) -> usize
     requires { ⌜ Counted (now file) records ⌝ }
-    requires { ⌜ Days (now days) ⌝ }
+    requires { ⌜ Spanned first (now days) ⌝ }
     requires { ⌜ records ≤ length (now codes) ⌝ }
     requires { ⌜ length (now sums) ≡ length (now days) ⌝ }
     requires { ⌜ Below 0 (now sums) ⌝ }
@@ -124,7 +126,8 @@ pub fn collect(
         at = next_place(file, here);
         n += 1;
         let r = rule_at(file, here);
-        let from = next_from(c, r, days, 0);
+        let start = on_to(r.first, first, days);
+        let from = next_from(c, r, days, start);
         if from < days.len() {
             codes[count] = take_in(file, here, number, c, r, days, from, sums);
             count += 1;

@@ -7,7 +7,7 @@ ghost use Rattle.prelude.specs.Splice.{splice};
 ghost use Rattle.pages.specs.Codes.{decode};
 ghost use Rattle.calendar.specs.File.{appointmentBytes};
 ghost use Rattle.export.specs.Export.{specialTime, appointmentOf};
-ghost use Rattle.spans.specs.Codes.{Days};
+ghost use Rattle.spans.specs.Codes.{Spanned};
 ghost use Rattle.pieces.specs.Sums.{rows};
 ghost use Rattle.pieces.specs.Scatter.{Added, Roomy, scatter};
 ghost use Rattle.exporting.specs.Passes.{Sound, marked, soFar};
@@ -33,19 +33,20 @@ fn flags_of(alarm: bool, minute: u16, interval: u16) -> u8
     mark + 2
 }
 
-// Puts the appointment of a code's record on its days.
+// Puts the appointment of a code's record on its days, of a span from day `first` on.
 fn fill_code(
     file: &[u8],
     code: u64,
     c: ShortMonth,
     interval: u16,
+    first: usize,
     days: &[u32],
     places: &mut [usize],
     out: &mut [u8],
 )
     requires { ⌜ 0 < interval ⌝ }
     requires { ⌜ Sound (now file) (code % 65536) ⌝ }
-    requires { ⌜ Days (now days) ⌝ }
+    requires { ⌜ Spanned first (now days) ⌝ }
     requires { ⌜ length (now places) ≡ length (now days) ⌝ }
     requires { ⌜ Roomy (λ k. marked c (now days) k (decode (now file) code)) (length (now days)) (length (appointmentBytes (appointmentOf (now file) interval (decode (now file) code)))) (now places) (length (now out)) ⌝ }
     ensures { λ _.
@@ -60,7 +61,7 @@ fn fill_code(
     let mut piece = [0u8; 32];
     let size = put_appointment(&mut piece, 0, minute, flags, text);
     let r = rule_at(file, (code % 65536) as usize);
-    put_hits(c, r, days, &piece[..size], places, out);
+    put_hits(c, r, first, days, &piece[..size], places, out);
 }
 
 // The blocks of the days from the first on, whole.
@@ -89,7 +90,7 @@ pub fn put_days(
     let mut n: usize = 0;
     while n < codes.len() {
         let code = codes[n];
-        fill_code(file, code, c, interval, days, places, out);
+        fill_code(file, code, c, interval, first, days, places, out);
         n += 1;
     }
     end

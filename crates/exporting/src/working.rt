@@ -32,7 +32,8 @@ fn export_days(
 {
     let c = q.choice;
     pack_days(q.first, days);
-    let n = collect(file, q.book.records, c, days, codes, sums);
+    let first = q.first.day.0 as usize;
+    let n = collect(file, q.book.records, c, first, days, codes, sums);
     let m = measure(sums);
     let a = answer_for(m, out.len());
     match a {

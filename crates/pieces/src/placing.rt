@@ -2,7 +2,7 @@
 ghost use mathlib.Core.Path.{_≡_};
 ghost use Prim.Native.Nat.{_+_, _≤_};
 ghost use lib.ListN.{length, getD};
-ghost use Rattle.spans.specs.Codes.{Days};
+ghost use Rattle.spans.specs.Codes.{Spanned};
 ghost use Rattle.spans.specs.Rules.{ruleShows};
 ghost use Rattle.pieces.specs.Sums.{rows, noneYet};
 ghost use Rattle.pieces.specs.Scatter.{Added, Roomy, scatter};
@@ -12,6 +12,7 @@ use falls::types::ShortMonth;
 use prelude::slices::copy_in;
 use spans::hits::next_after;
 use spans::hits::next_from;
+use spans::hits::on_to;
 use spans::types::Rule;
 
 // The blocks of the days from the first on, and the place of each day's first appointment.
@@ -39,16 +40,17 @@ pub fn put_blanks(
     pos
 }
 
-// Puts a piece at the place of each day on which a rule shows, and moves these places behind it.
+// Puts a piece at the place of each day on which a rule shows, in a span from day `first` on, and moves these places behind it.
 pub fn put_hits(
     c: ShortMonth,
     r: Rule,
+    first: usize,
     days: &[u32],
     piece: &[u8],
     places: &mut [usize],
     out: &mut [u8],
 )
-    requires { ⌜ Days (now days) ⌝ }
+    requires { ⌜ Spanned first (now days) ⌝ }
     requires { ⌜ length (now places) ≡ length (now days) ⌝ }
     requires { ⌜ Roomy (λ k. ruleShows c r (getD (now days) k 0)) (length (now days)) (length (now piece)) (now places) (length (now out)) ⌝ }
     ensures { λ _.
@@ -56,7 +58,8 @@ pub fn put_hits(
     ensures { λ _.
         ⌜ now (out .exit) ≡ scatter (length (now (days .entry))) (λ k. ruleShows c r (getD (now (days .entry)) k 0)) (now (piece .entry)) (now (places .entry)) 0 (now (out .entry)) ⌝ }
 {
-    let mut j = next_from(c, r, days, 0);
+    let start = on_to(r.first, first, days);
+    let mut j = next_from(c, r, days, start);
     while j < days.len() {
         let at = places[j];
         places[j] = copy_in(out, at, piece);

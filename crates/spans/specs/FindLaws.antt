@@ -1,8 +1,8 @@
--- The search of a rule's next day: which days are passed over, and what its ends say.
+-- The search of a rule's next day: which days are passed over.
 -- Assumes nothing.
 use Prim.Native.Nat.{ℕ, _+_, _-_, _<_, _≤_}
 use mathlib.Core.Path.{_≡_}
-use mathlib.Core.Bool.{Bool, true, false}
+use mathlib.Core.Bool.{Bool, false}
 use native.Mathlib.Omega.{arith}
 use Rattle.prelude.specs.Choice.{lt-elim}
 use Rattle.days.specs.Days.{lastDay}
@@ -12,7 +12,6 @@ use Rattle.falls.specs.declared.types.ShortMonth.{ShortMonth}
 use Rattle.spans.specs.Codes.{dayCode, dateIn}
 use Rattle.spans.specs.CodeLaws.{facts-known, held}
 use Rattle.spans.specs.MoveLaws.{Reaches}
-use Rattle.spans.specs.Next.{Next}
 use Rattle.spans.specs.Rules.{ruleShows, waitFor}
 use Rattle.spans.specs.WaitLaws.{shows-out, not-yet, date-past, wait-not}
 use Rattle.spans.specs.declared.types.Rule.{Rule}
@@ -48,10 +47,3 @@ module _ (c : ShortMonth) (r : Rule) where
       lt-elim {X = Unit {0}} (λ _. shown d ≡ false) n d tt tt
       (λ less. let q : n + (d - n) ≡ d = omega arith in rw q at (wait-not n (d - n) (omega arith) c r (omega arith) (omega arith)))
       (λ same. let q : n ≡ d = omega arith in rw q at z)
-
-  -- the ends of the search
-  pub next-found : {from n : ℕ} → from ≤ n → n ≤ lastDay → Free from n → shown n ≡ true → Next shown from (lastDay + 1) n
-  next-found a b f e = record { low = omega arith; high = omega arith; none = f; hit = λ _. e }
-
-  pub next-none : {from : ℕ} → from ≤ lastDay → Free from (lastDay + 1) → Next shown from (lastDay + 1) (lastDay + 1)
-  next-none a f = record { low = omega arith; high = omega arith; none = f; hit = λ h. absurd (omega arith) }

@@ -2,9 +2,12 @@
 pub mod Codes
 pub mod Rules
 pub mod Next
+pub mod NextLaws
 pub mod CodeLaws
 pub mod MonthLaws
 pub mod MoveLaws
 pub mod RuleLaws
 pub mod WaitLaws
 pub mod FindLaws
+pub mod GapLaws
+pub mod AfterLaws

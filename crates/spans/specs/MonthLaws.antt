@@ -1,4 +1,4 @@
--- The days after a day: within its month only the day of the month grows, and codes of dates rise.
+-- The days after a day: within its month only the day of the month grows, in the next one it begins anew; codes of dates rise.
 -- Assumes nothing.
 use Prim.Native.Nat.{ℕ, zero, suc, _+_, _-_, _%_, _<_, _≤_}
 use mathlib.Core.Path.{_≡_, sym, _∙_, ap}
@@ -6,10 +6,10 @@ use native.Mathlib.Omega.{arith}
 use native.Mathlib.Nat.{add-zero, add-suc}
 use Rattle.prelude.specs.Choice.{is-lt, lt-elim}
 use Rattle.days.specs.Dates.{monthLength}
-use Rattle.days.specs.Days.{lastDay, dateOf, nextDate}
+use Rattle.days.specs.Days.{monthAt, lengthAt, monthStart, lastDay, dateOf, nextDate}
 use Rattle.days.specs.Facts.{factsOf}
-use Rattle.days.specs.DateLaws.{Valid, length-bounds}
-use Rattle.days.specs.DayLaws.{valid-date, date-suc, weekday-formula}
+use Rattle.days.specs.DateLaws.{Month, Valid, length-bounds}
+use Rattle.days.specs.DayLaws.{Located, located, lengthAt-bounds, start-suc, dateIn, date-in, valid-date, date-suc, weekday-formula}
 use Rattle.days.specs.declared.types.Date.{Date}
 use Rattle.days.specs.declared.types.DayFacts.{DayFacts}
 use Rattle.spans.specs.Codes.{dateCode}
@@ -47,10 +47,32 @@ in-month n i h =
       length = ap (λ (d : Date). monthLength (d .year) (d .month)) e;
     }
 
--- a day lies in its month
+-- the facts of a day i days later where its month is over by then, and the next one is not
+pub record Over (f g : DayFacts) (i : ℕ) : Type 0 where
+  pub day : g .date .day + f .length ≡ f .date .day + i
+  pub length : 28 ≤ g .length
+
+pub over-month : (n i : ℕ) → factsOf n .length < factsOf n .date .day + i → i < 28 → Over (factsOf n) (factsOf (n + i)) i
+unfolding factsOf lengthAt
+over-month n i h less =
+    let l : Located n = located n in
+    let k = l .place + i - lengthAt (l .month) in
+    let b : Month (monthAt (suc (l .month))) (lengthAt (suc (l .month))) = lengthAt-bounds (suc (l .month)) in
+    let d : dateOf n ≡ dateIn (l .month) (l .place) = ap dateOf (l .sum) ∙ date-in (l .month) (l .place) (l .inside) in
+    let past : lengthAt (l .month) < l .place + 1 + i = rw d at h in
+    let s : monthStart (suc (l .month)) ≡ monthStart (l .month) + lengthAt (l .month) = start-suc (l .month) in
+    let m : n + i ≡ monthStart (suc (l .month)) + k = omega (arith, l .sum, l .inside) in
+    let e : dateOf (n + i) ≡ dateIn (suc (l .month)) k = ap dateOf m ∙ date-in (suc (l .month)) k (omega (arith, l .inside, b .least)) in
+    rw (d, e) (record { day = omega (arith, l .inside); length = b .least })
+
+-- a day lies in its month, and no month has less than 28
 pub in-length : (n : ℕ) → n ≤ lastDay → factsOf n .date .day ≤ factsOf n .length
 unfolding factsOf
 in-length n h = valid-date n h .last
+
+pub length-least : (n : ℕ) → n ≤ lastDay → 28 ≤ factsOf n .length
+unfolding factsOf
+length-least n h = let v : Valid (dateOf n) = valid-date n h in length-bounds (dateOf n .year) (dateOf n .month) (v .january) (v .december) .least
 
 -- codes rise
 next-rises : (d : Date) → Valid d → dateCode d < dateCode (nextDate d)

@@ -14,8 +14,7 @@ pub record Next (p : ℕ → Bool) (from end n : ℕ) : Type 0 where
   pub none : (k : ℕ) → from ≤ k → k < n → p k ≡ false
   pub hit : n < end → p n ≡ true
 
--- no day from place `from` to before place n has that date or a later one
-pub record Ahead (days : List ℕ) (date from n : ℕ) : Type 0 where
-  pub low : from ≤ n
+-- no day before place n has that date or a later one
+pub record Ahead (days : List ℕ) (date n : ℕ) : Type 0 where
   pub high : n ≤ length days
-  pub early : (k : ℕ) → from ≤ k → k < n → dateIn (getD days k 0) < date
+  pub early : (k : ℕ) → k < n → dateIn (getD days k 0) < date

@@ -2,9 +2,9 @@
 -- Assumes nothing.
 use Prim.Native.Nat.{ℕ, _+_, _-_, _/_, _%_}
 use mathlib.Core.Path.{_≡_, refl, sym, _∙_, ap}
-use mathlib.Core.Bool.{Bool, true, false}
+use mathlib.Core.Bool.{Bool, true, false, false≢true}
 use native.Mathlib.Omega.{arith}
-use Rattle.prelude.specs.Choice.{ifLt, ifEq, ifB, is-ge, is-eq, is-ne, is-true, is-false, eq-elim, lt-elim}
+use Rattle.prelude.specs.Choice.{ifLt, ifEq, ifB, is-ge, is-eq, is-ne, is-true, is-false, b-take, eq-elim, lt-elim}
 use Rattle.days.specs.declared.types.DayFacts.{DayFacts}
 use Rattle.days.specs.declared.types.Date.{Date}
 use Rattle.records.specs.Ranges.{recordOk}
@@ -52,6 +52,10 @@ module _ (c : ShortMonth) (r : Rule) (p : ℕ) where
   pub shows-off : onDate c r p ≡ false → ruleShows c r p ≡ false
   unfolding ruleShows
   shows-off e = is-false e _ _
+
+  pub shows-both : ruleShows c r p ≡ true → (onDate c r p ≡ true) × (inDates r p ≡ true)
+  unfolding ruleShows
+  shows-both e = b-take (onDate c r p) (inDates r p) false false≢true e
 
   pub shows-if : {t : Bool} → onDate c r p ≡ t → ruleShows c r p ≡ ifB t (inDates r p) false
   unfolding ruleShows

@@ -71,3 +71,7 @@ waitFor r p =
     (ifEq (r .kind) 4 (toWeekday p (r .a))
     (ifEq (r .kind) 5 (ifEq (monthIn p) (r .a) (toDay p (r .b)) (toMonth p)) 366)))))
     366
+
+-- so many days at least lie between two days on which a rule that is not weekly shows: no month has less than 28
+unfoldable pub gapOf : ℕ → ℕ
+gapOf kind = ifEq kind 1 1 28

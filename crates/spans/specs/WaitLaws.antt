@@ -27,7 +27,7 @@ pub not-yet : (r : Rule) (p : ℕ) → dateIn p < r .first → inDates r p ≡ f
 unfolding inDates
 not-yet r p h = is-lt h _ _
 
-no-more : (r : Rule) (p : ℕ) → r .last < dateIn p → inDates r p ≡ false
+pub no-more : (r : Rule) (p : ℕ) → r .last < dateIn p → inDates r p ≡ false
 unfolding inDates
 no-more r p h = lt-elim (λ z. z ≡ false) (dateIn p) (r .first) _ _ (λ _. refl) (λ _. is-lt h _ _)
 

@@ -1,40 +1,61 @@
-// The next day of a span on which a rule shows.
+// The days of a span on which a rule shows: where its dates begin, the first from a place on, and the next after one.
 ghost use Prim.Native.Nat.{_+_, _<_};
+ghost use mathlib.Core.Path.{_≡_};
+ghost use mathlib.Core.Bool.{true};
 ghost use lib.ListN.{length, getD};
-ghost use Rattle.spans.specs.Codes.{Days};
-ghost use Rattle.spans.specs.Rules.{ruleShows};
+ghost use Rattle.spans.specs.Codes.{Spanned, Days};
+ghost use Rattle.spans.specs.Rules.{ruleShows, gapOf};
 ghost use Rattle.spans.specs.Next.{Next, Ahead};
 use crate::asking::rule_shows;
 use crate::types::Rule;
 use crate::waiting::wait_for;
 use falls::types::ShortMonth;
+use std::num::wrapping_sub_usize;
 
-// From a place on to the first day that is not before a date, by halving: dates rise.
-fn on_to(date: u32, days: &[u32], from: usize) -> usize
-    requires { ⌜ Days (now days) ⌝ }
-    requires { ⌜ from < length (now days) ⌝ }
-    ensures { λ n. ⌜ Ahead (now (days .entry)) date from n ⌝ }
-{
-    let p = days[from];
-    if date <= p / 256 {
-        return from;
+// What `count_to` gives for 1 January 1980, day 0.
+const COUNT_TO_DAY_0: usize = 723502;
+
+// Days up to a date, counted by years that begin in March. It tells `on_to` where to look, and nothing rests on it.
+fn count_to(date: u32) -> u32 {
+    let year = date / 512;
+    let month = date / 32 % 16;
+    let day = date % 32;
+    if month < 3 {
+        return 365 * year + (year + 3) / 4 + (979 * month + 8829) / 32 + day;
     }
-    let mut low = from;
-    let mut high = days.len();
-    while 1 < high - low {
-        let middle = low + (high - low) / 2;
-        let q = days[middle];
-        if q / 256 < date {
-            low = middle;
-        } else {
-            high = middle;
+    365 * year + year / 4 + (979 * month + 8793) / 32 + day
+}
+
+// On to the first day that is not before a date, in a span from day `first` on: past days that are all before it.
+pub fn on_to(date: u32, first: usize, days: &[u32]) -> usize
+    requires { ⌜ Spanned first (now days) ⌝ }
+    ensures { λ n. ⌜ Ahead (now (days .entry)) date n ⌝ }
+{
+    if days.len() == 0 {
+        return 0;
+    }
+    let p = days[0];
+    if date <= p / 256 {
+        return 0;
+    }
+    let last = days.len() - 1;
+    let q = days[last];
+    if q / 256 < date {
+        return days.len();
+    }
+    let count = count_to(date) as usize;
+    let n = wrapping_sub_usize(count, first + COUNT_TO_DAY_0);
+    if n <= last {
+        let t = days[n];
+        if t / 256 <= date {
+            return n;
         }
     }
-    high
+    0
 }
 
 // The first day from a place on, on which the rule shows, by its waits; the number of days where there is none.
-fn wait_from(c: ShortMonth, r: Rule, days: &[u32], from: usize) -> usize
+pub fn next_from(c: ShortMonth, r: Rule, days: &[u32], from: usize) -> usize
     requires { ⌜ Days (now days) ⌝ }
     ensures { λ n. ⌜ Next (λ k. ruleShows c r (getD (now (days .entry)) k 0)) from (length (now (days .entry))) n ⌝ }
 {
@@ -49,25 +70,48 @@ fn wait_from(c: ShortMonth, r: Rule, days: &[u32], from: usize) -> usize
     days.len()
 }
 
-// The same, on to the rule's first date at once.
-pub fn next_from(c: ShortMonth, r: Rule, days: &[u32], from: usize) -> usize
+// The first such day after one, of a weekly rule: a week later or never.
+fn week_after(c: ShortMonth, r: Rule, days: &[u32], j: usize) -> usize
     requires { ⌜ Days (now days) ⌝ }
-    ensures { λ n. ⌜ Next (λ k. ruleShows c r (getD (now (days .entry)) k 0)) from (length (now (days .entry))) n ⌝ }
+    requires { ⌜ j < length (now days) ⌝ }
+    requires { ⌜ r .kind ≡ 2 ⌝ }
+    requires { ⌜ ruleShows c r (getD (now days) j 0) ≡ true ⌝ }
+    ensures { λ n. ⌜ Next (λ k. ruleShows c r (getD (now (days .entry)) k 0)) (j + 1) (length (now (days .entry))) n ⌝ }
 {
-    if from < days.len() {
-        let start = on_to(r.first, days, from);
-        return wait_from(c, r, days, start);
+    let k = j + 7;
+    if days.len() <= k {
+        return days.len();
     }
-    days.len()
+    let q = days[k];
+    if r.last < q / 256 {
+        return days.len();
+    }
+    k
+}
+
+// The gap of a rule that is not weekly, dated or of months.
+fn gap_of(kind: u32) -> usize
+    ensures { λ n. ⌜ n ≡ gapOf kind ⌝ }
+{
+    if kind == 1 {
+        return 1;
+    }
+    28
 }
 
 // The first such day after one.
 pub fn next_after(c: ShortMonth, r: Rule, days: &[u32], j: usize) -> usize
     requires { ⌜ Days (now days) ⌝ }
     requires { ⌜ j < length (now days) ⌝ }
+    requires { ⌜ ruleShows c r (getD (now days) j 0) ≡ true ⌝ }
     ensures { λ n. ⌜ Next (λ k. ruleShows c r (getD (now (days .entry)) k 0)) (j + 1) (length (now (days .entry))) n ⌝ }
 {
+    if r.kind == 2 {
+        return week_after(c, r, days, j);
+    }
     let p = days[j];
-    let from = j + wait_for(r, p) as usize;
-    wait_from(c, r, days, from)
+    if r.last <= p / 256 {
+        return days.len();
+    }
+    next_from(c, r, days, j + gap_of(r.kind))
 }

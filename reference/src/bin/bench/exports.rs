@@ -83,6 +83,8 @@ pub fn rows() -> Vec<Row> {
         exporting("full, dated, 366 days", SPAN, || full(1)),
         exporting("full, weekly, 366 days", SPAN, || full(2)),
         exporting("full, monthly, 366 days", SPAN, || full(3)),
+        exporting("full, by position, 366 days", SPAN, || full(4)),
+        exporting("full, yearly, 366 days", SPAN, || full(5)),
         exporting("full, on Mondays, 366 days", SPAN, mondays),
     ]
 }

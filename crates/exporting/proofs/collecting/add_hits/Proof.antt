@@ -46,7 +46,7 @@ slice-write-sums c = omega arith
 next-after-requires : tie.Need-next-after-requires Inv-loop μ-loop
 next-after-requires c κs =
     let l = c .before .before in
-    (l .before .before .before .pre .0, omega arith)
+    (l .before .before .before .pre .0, (omega arith, l .loop .inv .2 (omega arith)))
 
 loop-less : tie.Need-loop-less Inv-loop μ-loop
 loop-less c = let n = c .next-after .ensures in omega arith

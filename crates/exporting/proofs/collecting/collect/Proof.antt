@@ -3,19 +3,29 @@
 use Prim.Native.Nat.{_-_, _≤_}
 use mathlib.Core.Path.{_≡_, refl, sym, _∙_}
 use native.Mathlib.Omega.{arith}
-use lib.ListN.{length, length-set}
+use lib.ListN.{length, getD, length-set}
 use Rattle.book.specs.BookLaws.{cursor-ahead}
 use Rattle.book.specs.CountLaws.{count-most}
+use Rattle.spans.specs.Rules.{ruleShows}
+use Rattle.spans.specs.Next.{Next}
+use Rattle.spans.specs.AfterLaws.{spanned-days, next-ahead}
 use Rattle.exporting.specs.Passes.{Below}
 use Rattle.exporting.specs.CollectLaws.{Collecting, collect-start, collect-sound, collect-skip, collect-take, collect-end}
 use Rattle.exporting.proofs.collecting.collect.Statement.{statement}
 use Rattle.exporting.proofs.collecting.collect.Tie as tie
 
 abbrev Inv-loop : tie.InvT-loop
-Inv-loop file records c days codes₀ sums₀ at₀ n₀ count₀ codes sums at n count = Collecting file c days n at count codes sums × (n ≤ records) × (length codes ≡ length codes₀)
+Inv-loop file records c first days codes₀ sums₀ at₀ n₀ count₀ codes sums at n count = Collecting file c days n at count codes sums × (n ≤ records) × (length codes ≡ length codes₀)
 
 abbrev μ-loop : tie.MeasureT-loop
-μ-loop file records c days codes₀ sums₀ at₀ n₀ count₀ codes sums at n count = records - n
+μ-loop file records c first days codes₀ sums₀ at₀ n₀ count₀ codes sums at n count = records - n
+
+-- the first day on which the record shows
+abbrev start-of : tie.After-next-from Inv-loop μ-loop → tie.Start Inv-loop μ-loop
+start-of n = n .before .before .before .before .before .before .before .before .before .before
+
+shown : (n : tie.After-next-from Inv-loop μ-loop) → let a = start-of n .args in Next (λ k. ruleShows (a .c) (n .before .before .rule-at .result) (getD (a .days .now) k 0)) 0 (length (a .days .now)) (n .next-from .result)
+shown n = next-ahead _ _ (n .before .on-to .ensures) (n .next-from .ensures)
 
 loop-holds : tie.Need-loop-holds Inv-loop μ-loop
 loop-holds c =
@@ -36,24 +46,27 @@ rule-at-requires c κs =
     let l = c .before .before in
     collect-sound (l .loop .inv .0) (l .before .before .before .before .before .pre .0) (omega arith) .place
 
+on-to-requires : tie.Need-on-to-requires Inv-loop μ-loop
+on-to-requires c κs = c .before .before .before .before .before .before .before .before .pre .1 .0
+
 next-from-requires : tie.Need-next-from-requires Inv-loop μ-loop
-next-from-requires c κs = c .before .before .before .before .before .before .before .before .pre .1 .0
+next-from-requires c κs = spanned-days (c .before .before .before .before .before .before .before .before .before .pre .1 .0)
 
 take-in-requires : tie.Need-take-in-requires Inv-loop μ-loop
 take-in-requires c κs =
     let n = c .before .before in
-    let l = n .before .before .before .before in
+    let l = n .before .before .before .before .before in
     let s = l .before .before .before .before .before in
     let g = l .loop .inv .0 in
     let most = count-most (s .args .file .now) (s .pre .0 .long) in
     let below : Below 40192304123904 (l .loop .sums) = record { each = λ k i. omega (arith, g .below .each k i, most, s .pre .0 .size, s .pre .0 .count) } in
-    (collect-sound g (s .pre .0) (omega arith), (omega (arith, most, s .pre .0 .size, s .pre .0 .count), (n .before .rule-at .ensures, (s .pre .1 .0, (g .long, (n .next-from .ensures, below))))))
+    (collect-sound g (s .pre .0) (omega arith), (omega (arith, most, s .pre .0 .size, s .pre .0 .count), (n .before .before .rule-at .ensures, (spanned-days (s .pre .1 .0), (g .long, (shown n, below))))))
 
 mul-codes : tie.Need-mul-codes Inv-loop μ-loop
 mul-codes c = omega arith
 
 slice-write-codes : tie.Need-slice-write-codes Inv-loop μ-loop
-slice-write-codes c = omega (arith, c .before .before .before .before .before .before .before .before .before .loop .inv .0 .few)
+slice-write-codes c = omega (arith, c .before .before .before .before .before .before .before .before .before .before .loop .inv .0 .few)
 
 add-count : tie.Need-add-count Inv-loop μ-loop
 add-count c = omega arith
@@ -65,10 +78,10 @@ loop-again : tie.Need-loop-again Inv-loop μ-loop
 loop-again c =
     let t = c .before .before in
     let n = t .before .before .before in
-    let l = n .before .before .before .before in
+    let l = n .before .before .before .before .before in
     let s = l .before .before .before .before .before in
     let g = l .loop .inv .0 in (
-      collect-take g (s .pre .0) (omega arith) (n .before .rule-at .ensures) (n .before .before .next-place .ensures) (n .next-from .ensures) (omega arith) (omega (arith, g .few)) (t .take-in .ensures .0) (t .take-in .ensures .1),
+      collect-take g (s .pre .0) (omega arith) (n .before .before .rule-at .ensures) (n .before .before .before .next-place .ensures) (shown n) (omega arith) (omega (arith, g .few)) (t .take-in .ensures .0) (t .take-in .ensures .1),
       omega arith,
       length-set (l .loop .codes) (l .loop .count) (t .take-in .result) ∙ l .loop .inv .2,
     )
@@ -79,9 +92,9 @@ loop-less-2 c = omega arith
 loop-again-2 : tie.Need-loop-again-2 Inv-loop μ-loop
 loop-again-2 c =
     let n = c .before in
-    let l = n .before .before .before .before in
+    let l = n .before .before .before .before .before in
     let s = l .before .before .before .before .before in (
-      collect-skip (l .loop .inv .0) (s .pre .0) (omega arith) (n .before .rule-at .ensures) (n .before .before .next-place .ensures) (n .next-from .ensures) (omega arith),
+      collect-skip (l .loop .inv .0) (s .pre .0) (omega arith) (n .before .before .rule-at .ensures) (n .before .before .before .next-place .ensures) (shown n) (omega arith),
       omega arith,
       l .loop .inv .2,
     )
@@ -112,6 +125,7 @@ collect-spec =
     next-place-requires
     add-n
     rule-at-requires
+    on-to-requires
     next-from-requires
     take-in-requires
     mul-codes

@@ -7,7 +7,7 @@ use lib.ListN.{length}
 use Rattle.pieces.specs.Sums.{rows, unitsTo, noneYet}
 use Rattle.exporting.specs.Passes.{soFar}
 use Rattle.pieces.specs.FillLaws.{Filled, filled-self, filled-over}
-use Rattle.exporting.specs.ReadyLaws.{ready-days, ready-sound, ready-long, blank-long, ready-start, ready-room, ready-next, ready-whole}
+use Rattle.exporting.specs.ReadyLaws.{ready-sound, ready-long, blank-long, ready-start, ready-room, ready-next, ready-whole}
 use Rattle.exporting.proofs.filling.put_days.Statement.{statement}
 use Rattle.exporting.proofs.filling.put_days.Tie as tie
 
@@ -53,7 +53,7 @@ fill-code-requires c κs =
     let l = c .before .before .before .before in
     let s = start-of (blanks l) in
     let r = s .pre .1 .0 in
-    (s .pre .0, (ready-sound r (l .loop .n) (omega arith), (ready-days r, (l .loop .inv .2, ready-room r (s .args .interval) (l .loop .inv .3) (omega arith) (l .loop .inv .0)))))
+    (s .pre .0, (ready-sound r (l .loop .n) (omega arith), (r .span, (l .loop .inv .2, ready-room r (s .args .interval) (l .loop .inv .3) (omega arith) (l .loop .inv .0)))))
 
 add-n : tie.Need-add-n Inv-loop μ-loop
 add-n c = let l = c .before .before .before .before .before .before .before .before .before in omega (arith, start-of (blanks l), l)

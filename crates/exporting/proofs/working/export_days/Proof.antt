@@ -18,7 +18,7 @@ abbrev from : tie.After-pack-days → tie.Start
 from p = p .before .before .before .before .before .before .before .before .before
 
 abbrev packed : tie.After-measure → tie.After-pack-days
-packed m = m .before .before .before .before .before .before .before .before .before .before .before .before
+packed m = m .before .before .before .before .before .before .before .before .before .before .before .before .before
 
 abbrev start-of : tie.After-measure → tie.Start
 start-of m = from (packed m)
@@ -31,7 +31,7 @@ count : (m : tie.After-measure) → length (packed m .pack-days .last .1 .0) ≡
 count m = packed m .pack-days .kept .1 .0
 
 -- what is collected, and its measure
-gathers : (m : tie.After-measure) → let a = start-of m .args in let k = m .before .before .before .before .before .before in Gathered (a .file .now) (a .q .choice) (a .q .first .day .0) (packed m .pack-days .last .1 .0) (k .collect .last .1 .1 .1 .1 .1 .0) (take (k .collect .result) (k .collect .last .1 .1 .1 .1 .0))
+gathers : (m : tie.After-measure) → let a = start-of m .args in let k = m .before .before .before .before .before .before in Gathered (a .file .now) (a .q .choice) (a .q .first .day .0) (packed m .pack-days .last .1 .0) (k .collect .last .1 .1 .1 .1 .1 .1 .0) (take (k .collect .result) (k .collect .last .1 .1 .1 .1 .1 .0))
 gathers m =
     let s = start-of m in
     let k = m .before .before .before .before .before .before in
@@ -65,14 +65,17 @@ pack-days-requires c κs =
     let v = c .before .before .before .before .before .before .before .before .pre .0 in
     (v .facts, v .end)
 
+cast-first : tie.Need-cast-first
+cast-first c = search needs
+
 collect-requires : tie.Need-collect-requires
 collect-requires c κs =
-    let p = c .before .before .before .before .before in
+    let p = c .before .before .before .before .before .before in
     let s = from p in
     let w = s .pre .1 in
     let b = accepted s in
     let long = p .pack-days .kept .1 .0 in
-    (record { size = b .size; long = b .long; count = omega (arith, b .count) }, (record { first = _; spanned = p .pack-days .ensures }, (omega (arith, w .all-codes), (omega (arith, w .each-sum), w .clear))))
+    (record { size = b .size; long = b .long; count = omega (arith, b .count) }, (p .pack-days .ensures, (omega (arith, w .all-codes), (omega (arith, w .each-sum), w .clear))))
 
 measure-requires : tie.Need-measure-requires
 measure-requires c κs = search needs
@@ -94,7 +97,7 @@ fill-requires c κs =
     let v = s .pre .0 in
     let w = s .pre .1 in
     let e = count m in
-    let kept = k .collect .kept .1 .1 .1 .1 .0 in
+    let kept = k .collect .kept .1 .1 .1 .1 .1 .0 in
     let fits = span-written (showsUnder (a .q .choice)) (a .file .now) (a .q .first .day .0) (length (a .days .now)) (length (a .out .now)) _ (sym (answer t) ∙ x .a .given .1) in
     (accepted s .settings, (gathers m, (omega (arith, k .collect .ensures .0, kept), (omega (arith, kept, w .all-spare), (omega (arith, e, v .most), (omega (arith, e, w .each-place), (measures m .few, omega (arith, long-is m, long m, fits .1, fits .2))))))))
 
@@ -155,6 +158,7 @@ export-days-spec =
     tie.close
     (tie.spec
     pack-days-requires
+    cast-first
     collect-requires
     measure-requires
     answer-for-requires

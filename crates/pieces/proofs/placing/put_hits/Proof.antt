@@ -7,25 +7,29 @@ use native.Mathlib.Omega.{arith}
 use lib.ListN.{length, getD}
 use Rattle.prelude.specs.Splice.{splice}
 use Rattle.spans.specs.Rules.{ruleShows}
+use Rattle.spans.specs.AfterLaws.{spanned-days, next-ahead}
 use Rattle.pieces.specs.Scatter.{Added, scatter}
 use Rattle.pieces.specs.ScatterLaws.{added-none, added-hit, scatter-end, scatter-hit, scatter-skip, scatter-first}
 use Rattle.pieces.proofs.placing.put_hits.Statement.{statement}
 use Rattle.pieces.proofs.placing.put_hits.Tie as tie
 
 abbrev Inv-loop : tie.InvT-loop
-Inv-loop c r days piece places₀ out₀ j₀ places out j =
+Inv-loop c r first days piece places₀ out₀ start j₀ places out j =
     (scatter (length days) (λ k. ruleShows c r (getD days k 0)) piece places₀ 0 out₀ ≡ scatter (length days - j) (λ k. ruleShows c r (getD days k 0)) piece places₀ j out) × Added (λ k. ruleShows c r (getD days k 0)) (length piece) j places₀ places × (length out ≡ length out₀) × (j ≤ length days) × (j < length days → ruleShows c r (getD days j 0) ≡ true)
 
 abbrev μ-loop : tie.MeasureT-loop
-μ-loop c r days piece places₀ out₀ j₀ places out j = length days - j
+μ-loop c r first days piece places₀ out₀ start j₀ places out j = length days - j
+
+on-to-requires : tie.Need-on-to-requires Inv-loop μ-loop
+on-to-requires c κs = c .before .before .before .before .pre .0
 
 next-from-requires : tie.Need-next-from-requires Inv-loop μ-loop
-next-from-requires c κs = c .before .before .before .before .pre .0
+next-from-requires c κs = spanned-days (c .before .before .before .before .before .pre .0)
 
 loop-holds : tie.Need-loop-holds Inv-loop μ-loop
 loop-holds c =
-    let s = c .before .before .before .before .before in
-    let n = c .next-from .ensures in (
+    let s = c .before .before .before .before .before .before in
+    let n = next-ahead (s .args .c) (s .args .r) (c .before .on-to .ensures) (c .next-from .ensures) in (
       scatter-first _ (s .args .piece .now) (s .args .places .now) (s .args .out .now) (n .high) (n .none),
       added-none _ (λ k h. n .none k (omega arith) h),
       refl,
@@ -42,7 +46,7 @@ slice-read-at c = omega arith
 copy-in-requires : tie.Need-copy-in-requires Inv-loop μ-loop
 copy-in-requires c κs =
     let l = c .before .before .before in
-    let s = l .before .before .before .before .before .before in
+    let s = l .before .before .before .before .before .before .before in
     omega (arith, l .loop .inv .1 .ahead (l .loop .j) (omega arith), s .pre .1 .1 .each (l .loop .j) (omega arith) (l .loop .inv .4 (omega arith)), l .loop .inv .2)
 
 mul-places : tie.Need-mul-places Inv-loop μ-loop
@@ -54,7 +58,7 @@ slice-write-places c = omega arith
 next-after-requires : tie.Need-next-after-requires Inv-loop μ-loop
 next-after-requires c κs =
     let l = c .before .before .before .before .before .before in
-    (l .before .before .before .before .before .before .pre .0, omega arith)
+    (spanned-days (l .before .before .before .before .before .before .before .pre .0), (omega arith, l .loop .inv .4 (omega arith)))
 
 loop-less : tie.Need-loop-less Inv-loop μ-loop
 loop-less c = let n = c .next-after .ensures in omega arith
@@ -63,7 +67,8 @@ loop-again : tie.Need-loop-again Inv-loop μ-loop
 loop-again c =
     let k = c .before .before .before in
     let l = k .before .before .before .before in
-    let a = l .before .before .before .before .before .before .args in
+    let s = l .before .before .before .before .before .before .before in
+    let a = s .args in
     let p : ℕ → Bool = λ i. ruleShows (a .c) (a .r) (getD (a .days .now) i 0) in
     let n = c .next-after .ensures in
     let hit = l .loop .inv .4 (omega arith) in
@@ -72,8 +77,8 @@ loop-again c =
           ∙ scatter-hit p (a .piece .now) (a .places .now) (l .loop .out) (omega arith) hit
           ∙ ap (scatter (length (a .days .now) - (l .loop .j + 1)) p (a .piece .now) (a .places .now) (l .loop .j + 1)) (sym here)
           ∙ scatter-skip p (a .piece .now) (a .places .now) (k .copy-in .last .0) (omega (arith, n .low)) (n .high) (n .none),
-      added-hit p (l .loop .inv .1) (omega arith) hit (k .copy-in .ensures .0) (omega (arith, n .low)) (n .none),
-      omega arith,
+      added-hit p (l .loop .inv .1) (omega (arith, s .pre .1 .0)) hit (k .copy-in .ensures .0) (omega (arith, n .low)) (n .none),
+      k .copy-in .kept .0 ∙ l .loop .inv .2,
       n .high,
       n .hit,
     )
@@ -87,7 +92,7 @@ same-length-2 c = c .before .loop .inv .2
 returns : tie.Need-returns Inv-loop μ-loop
 returns c =
     let l = c .before in
-    let a = l .before .before .before .before .before .before .args in
+    let a = l .before .before .before .before .before .before .before .args in
     let e : l .loop .j ≡ length (a .days .now) = omega arith in
     let z : length (a .days .now) - l .loop .j ≡ 0 = omega arith in
     (rw (← e) (l .loop .inv .1), sym (l .loop .inv .0 ∙ rw z (scatter-end _ (a .piece .now) (a .places .now) (l .loop .j) (l .loop .out))))
@@ -98,6 +103,7 @@ put-hits-spec =
     (tie.spec
     Inv-loop
     μ-loop
+    on-to-requires
     next-from-requires
     loop-holds
     mul-at

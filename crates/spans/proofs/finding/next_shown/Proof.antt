@@ -12,7 +12,8 @@ use Rattle.spans.specs.Codes.{dayCode}
 use Rattle.spans.specs.Rules.{ruleShows, waitFor}
 use Rattle.spans.specs.WaitLaws.{wait-least}
 use Rattle.spans.specs.MoveLaws.{FactsAt, at-day, day-is, at-known}
-use Rattle.spans.specs.FindLaws.{shown, Free, free-join, free-before, free-after, free-wait, next-found, next-none}
+use Rattle.spans.specs.FindLaws.{shown, Free, free-join, free-before, free-after, free-wait}
+use Rattle.spans.specs.NextLaws.{next-hit, next-end}
 use Rattle.spans.proofs.finding.next_shown.Statement.{statement}
 use Rattle.spans.proofs.finding.next_shown.Tie as tie
 
@@ -56,7 +57,7 @@ returns c =
     let e = code (c .before .before) in
     let s = l .before .start-of .ensures .low in
     let h = l .loop .inv .0 .high in
-    next-none _ _ (omega arith) (free-join _ _ (passed l) (free-after _ _ _ (omega arith)))
+    next-end (omega arith) (free-join _ _ (passed l) (free-after _ _ _ (omega arith)))
 
 rule-shows-requires : tie.Need-rule-shows-requires Inv-loop μ-loop
 rule-shows-requires c κs = search needs
@@ -69,7 +70,7 @@ returns-2 c =
     let l = c .before .before .before .before .before .before in
     let a = l .before .before .args in
     let s = l .before .start-of .ensures .low in
-    next-found _ _ (omega arith) (l .loop .inv .0 .high) (passed l)
+    next-hit (omega arith) (omega (arith, l .loop .inv .0 .high)) (passed l)
     (ap (λ (p : ℕ). ruleShows (a .c) (a .r) p) (sym (code (c .before .before .before .before .before))) ∙ sym (c .before .before .rule-shows .ensures) ∙ c .before .if2 .taken)
 
 wait-for-requires : tie.Need-wait-for-requires Inv-loop μ-loop
@@ -87,7 +88,7 @@ returns-3 c =
     let s = l .before .start-of .ensures .low in
     let h = l .loop .inv .0 .high in
     let w = waits (c .before .before) in
-    next-none _ _ (omega arith) (free-join _ _ (passed l) (free-wait _ _ _ (here (c .before .before .before)) (omega arith) (omega arith)))
+    next-end (omega arith) (free-join _ _ (passed l) (free-wait _ _ _ (here (c .before .before .before)) (omega arith) (omega arith)))
 
 cast-days-later : tie.Need-cast-days-later Inv-loop μ-loop
 cast-days-later c = let h = c .before .before .before .before .before .before .before .before .loop .inv .0 .high in omega arith

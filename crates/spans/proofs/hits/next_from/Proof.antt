@@ -1,46 +1,98 @@
--- `next_from` meets its contract: no day before the rule's first date shows, and then `wait_from` goes on.
+-- `next_from` meets its contract: no day passed shows, the skipped ones by `spanned-not`.
 -- Assumes nothing.
-use mathlib.Core.Path.{_≡_}
+use Prim.Native.Nat.{ℕ, _-_, _<_, _≤_}
+use mathlib.Core.Path.{_≡_, sym, _∙_}
 use mathlib.Core.Bool.{false}
 use native.Mathlib.Omega.{arith}
-use lib.ListN.{getD}
+use borrow.Author.Needs.{needs}
+use lib.ListN.{length, getD}
 use Rattle.prelude.specs.Choice.{lt-elim}
 use Rattle.spans.specs.Rules.{ruleShows}
-use Rattle.spans.specs.WaitLaws.{shows-out, not-yet}
-use borrow.Author.Needs.{needs}
+use Rattle.spans.specs.WaitLaws.{wait-least, spanned-not}
 use Rattle.spans.proofs.hits.next_from.Statement.{statement}
 use Rattle.spans.proofs.hits.next_from.Tie as tie
 
-on-to-requires : tie.Need-on-to-requires
-on-to-requires c κs = search needs
+abbrev Inv-loop : tie.InvT-loop
+Inv-loop c r days from j₀ j = (from ≤ j) × ((k : ℕ) → from ≤ k → k < j → k < length days → ruleShows c r (getD days k 0) ≡ false)
 
-wait-from-requires : tie.Need-wait-from-requires
-wait-from-requires c κs = search needs
+abbrev μ-loop : tie.MeasureT-loop
+μ-loop c r days from j₀ j = length days - j
 
-returns : tie.Need-returns
+loop-holds : tie.Need-loop-holds Inv-loop μ-loop
+loop-holds c = (omega arith, (λ k l m. absurd (omega arith)))
+
+mul-p : tie.Need-mul-p Inv-loop μ-loop
+mul-p c = omega arith
+
+shared-slice-read-p : tie.Need-shared-slice-read-p Inv-loop μ-loop
+shared-slice-read-p c = omega arith
+
+rule-shows-requires : tie.Need-rule-shows-requires Inv-loop μ-loop
+rule-shows-requires c κs = search needs
+
+returns : tie.Need-returns Inv-loop μ-loop
 returns c =
-    let n = c .wait-from .ensures in
-    let o = c .before .on-to .ensures in
-    let a = c .before .before .before .before .args in
-    record {
-      low = omega (arith, n .low, o .low, o .high);
-      high = n .high;
-      none =
-          λ k from less.
-          lt-elim {X = Unit {0}} (λ _. ruleShows (a .c) (a .r) (getD (a .days .now) k 0) ≡ false) k (c .before .on-to .result) tt tt
-          (λ h. shows-out (a .c) (a .r) (getD (a .days .now) k 0) (not-yet (a .r) (getD (a .days .now) k 0) (o .early k from h)))
-          (λ h. n .none k h less);
-      hit = n .hit;
-    }
-
-returns-2 : tie.Need-returns-2
-returns-2 c =
+    let l = c .before .before .before .before in
     record {
       low = omega arith;
       high = omega arith;
-      none = λ k from less. absurd (omega arith);
+      none = λ k a b. l .loop .inv .1 k a b (omega arith);
+      hit = λ _. sym (c .before .rule-shows .ensures) ∙ c .if1 .taken;
+    }
+
+wait-for-requires : tie.Need-wait-for-requires Inv-loop μ-loop
+wait-for-requires c κs = search needs
+
+cast-j : tie.Need-cast-j Inv-loop μ-loop
+cast-j c = omega arith
+
+add-j : tie.Need-add-j Inv-loop μ-loop
+add-j c = omega arith
+
+loop-less : tie.Need-loop-less Inv-loop μ-loop
+loop-less c =
+    let l = c .before .before .before .before .before in
+    let a = l .before .before .args in
+    omega (arith, wait-least (a .r) (getD (a .days .now) (l .loop .j) 0), c .wait-for .ensures)
+
+loop-again : tie.Need-loop-again Inv-loop μ-loop
+loop-again c =
+    let l = c .before .before .before .before .before in
+    let s = l .before .before in
+    let a = s .args in
+    let w = c .wait-for .ensures in (
+      omega arith,
+      λ k from less inside.
+          lt-elim {X = Unit {0}} (λ _. ruleShows (a .c) (a .r) (getD (a .days .now) k 0) ≡ false) k (l .loop .j) tt tt (λ h. l .loop .inv .1 k from h inside)
+          (λ g. lt-elim {X = Unit {0}} (λ _. ruleShows (a .c) (a .r) (getD (a .days .now) k 0) ≡ false) (l .loop .j) k tt tt
+          (λ h. spanned-not (s .pre .spanned) (a .c) (a .r) (l .loop .j) k h inside (omega (arith, less, w)))
+          (λ h. let e : k ≡ l .loop .j = omega arith in rw e (sym (c .before .before .rule-shows .ensures) ∙ c .before .if1 .left))),
+    )
+
+returns-2 : tie.Need-returns-2 Inv-loop μ-loop
+returns-2 c =
+    let l = c .before in
+    record {
+      low = omega arith;
+      high = omega arith;
+      none = λ k a b. l .loop .inv .1 k a (omega arith) b;
       hit = λ h. absurd (omega arith);
     }
 
 pub next-from-spec : {M : Type 1} → statement M
-next-from-spec = tie.close (tie.spec on-to-requires wait-from-requires returns returns-2)
+next-from-spec =
+    tie.close
+    (tie.spec
+    Inv-loop
+    μ-loop
+    loop-holds
+    mul-p
+    shared-slice-read-p
+    rule-shows-requires
+    returns
+    wait-for-requires
+    cast-j
+    add-j
+    loop-less
+    loop-again
+    returns-2)

@@ -1,93 +1,82 @@
--- `on_to` meets its contract. The loop keeps the part that holds the date: day `low` is before it, and so are all before that one, by `spanned-less`.
+-- `on_to` meets its contract: the place that it gives is past days before the date, since one of them was looked at and dates rise.
 -- Assumes nothing.
-use Prim.Native.Nat.{_-_, _<_, _≤_}
-use mathlib.Core.Path.{_≡_}
+use Prim.Native.Nat.{_-_}
 use native.Mathlib.Omega.{arith}
+use lib.ListN.{length}
 use borrow.Author.Needs.{needs}
-use lib.ListN.{length, getD}
-use Rattle.prelude.specs.Choice.{lt-elim}
-use Rattle.spans.specs.Codes.{dateIn}
-use Rattle.spans.specs.WaitLaws.{spanned-less}
+use Rattle.spans.specs.AfterLaws.{ahead-at, ahead-all}
 use Rattle.spans.proofs.hits.on_to.Statement.{statement}
 use Rattle.spans.proofs.hits.on_to.Tie as tie
 
-abbrev Inv-loop : tie.InvT-loop
-Inv-loop date days from p low₀ high₀ low high = (from ≤ low) × (low < high) × (high ≤ length days) × (dateIn (getD days low 0) < date)
+returns : tie.Need-returns
+returns c = search needs
 
-abbrev μ-loop : tie.MeasureT-loop
-μ-loop date days from p low₀ high₀ low high = high - low
-
-mul-p : tie.Need-mul-p Inv-loop μ-loop
-mul-p c = search needs
-
-shared-slice-read-p : tie.Need-shared-slice-read-p Inv-loop μ-loop
+shared-slice-read-p : tie.Need-shared-slice-read-p
 shared-slice-read-p c = search needs
 
-returns : tie.Need-returns Inv-loop μ-loop
-returns c = record { low = omega arith; high = omega arith; early = λ k a b. absurd (omega arith) }
+returns-2 : tie.Need-returns-2
+returns-2 c = search needs
 
-loop-holds : tie.Need-loop-holds Inv-loop μ-loop
-loop-holds c = omega arith
+sub-last : tie.Need-sub-last
+sub-last c = search needs
 
-sub-loop : tie.Need-sub-loop Inv-loop μ-loop
-sub-loop c = omega arith
+mul-q : tie.Need-mul-q
+mul-q c = search needs
 
-sub-middle : tie.Need-sub-middle Inv-loop μ-loop
-sub-middle c = omega arith
+shared-slice-read-q : tie.Need-shared-slice-read-q
+shared-slice-read-q c = search needs
 
-add-middle : tie.Need-add-middle Inv-loop μ-loop
-add-middle c = omega arith
+returns-3 : tie.Need-returns-3
+returns-3 c =
+    let s = c .before .before .before .before .before .before in
+    ahead-all (s .pre) (length (s .args .days .now) - 1) (omega arith) (omega arith)
 
-mul-q : tie.Need-mul-q Inv-loop μ-loop
-mul-q c = omega arith
+count-to-requires : tie.Need-count-to-requires
+count-to-requires c κs = search needs
 
-shared-slice-read-q : tie.Need-shared-slice-read-q Inv-loop μ-loop
-shared-slice-read-q c = omega arith
+cast-count : tie.Need-cast-count
+cast-count c = search needs
 
-loop-less : tie.Need-loop-less Inv-loop μ-loop
-loop-less c = omega arith
+add-wrapping-sub-usize : tie.Need-add-wrapping-sub-usize
+add-wrapping-sub-usize c = search needs
 
-loop-again : tie.Need-loop-again Inv-loop μ-loop
-loop-again c = omega arith
+wrapping-sub-usize-requires : tie.Need-wrapping-sub-usize-requires
+wrapping-sub-usize-requires c κs = search needs
 
-loop-less-2 : tie.Need-loop-less-2 Inv-loop μ-loop
-loop-less-2 c = omega arith
+mul-t : tie.Need-mul-t
+mul-t c = search needs
 
-loop-again-2 : tie.Need-loop-again-2 Inv-loop μ-loop
-loop-again-2 c = omega arith
+shared-slice-read-t : tie.Need-shared-slice-read-t
+shared-slice-read-t c = search needs
 
-returns-2 : tie.Need-returns-2 Inv-loop μ-loop
-returns-2 c =
-    let l = c .before in
-    let s = l .before .before .before in
-    let days = s .args .days .now in
-    record {
-      low = omega arith;
-      high = omega arith;
-      early =
-          λ k a b.
-          lt-elim {X = Unit {0}} (λ _. dateIn (getD days k 0) < s .args .date) k (l .loop .low) tt tt
-          (λ h. omega (arith, spanned-less (s .pre .0 .spanned) k (l .loop .low) h (omega arith)))
-          (λ h. let e : k ≡ l .loop .low = omega arith in rw e (omega arith));
-    }
+returns-4 : tie.Need-returns-4
+returns-4 c =
+    let w = c .before .before .before in
+    ahead-at (w .before .before .before .before .before .before .before .before .pre) (w .wrapping-sub-usize .result) (omega arith) (omega arith)
+
+returns-5 : tie.Need-returns-5
+returns-5 c = search needs
+
+returns-6 : tie.Need-returns-6
+returns-6 c = search needs
 
 pub on-to-spec : {M : Type 1} → statement M
 on-to-spec =
     tie.close
     (tie.spec
-    Inv-loop
-    μ-loop
-    mul-p
-    shared-slice-read-p
     returns
-    loop-holds
-    sub-loop
-    sub-middle
-    add-middle
+    shared-slice-read-p
+    returns-2
+    sub-last
     mul-q
     shared-slice-read-q
-    loop-less
-    loop-again
-    loop-less-2
-    loop-again-2
-    returns-2)
+    returns-3
+    count-to-requires
+    cast-count
+    add-wrapping-sub-usize
+    wrapping-sub-usize-requires
+    mul-t
+    shared-slice-read-t
+    returns-4
+    returns-5
+    returns-6)
