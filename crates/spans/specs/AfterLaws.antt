@@ -7,12 +7,11 @@ use mathlib.Core.List.{List}
 use native.Mathlib.Omega.{arith}
 use lib.ListN.{length, getD}
 use Rattle.prelude.specs.Choice.{is-eq, is-ge, eq-take, eq-elim, lt-skip, lt-elim, tested}
-use Rattle.days.specs.Facts.{factsOf}
-use Rattle.days.specs.DayLaws.{weekday-formula}
 use Rattle.falls.specs.declared.types.ShortMonth.{ShortMonth}
 use Rattle.spans.specs.Codes.{dateIn, weekdayIn, Spanned, Days}
 use Rattle.spans.specs.Rules.{onDate, inDates, ruleShows, waitFor, gapOf}
-use Rattle.spans.specs.CodeLaws.{facts-known, held}
+use Rattle.spans.specs.CodeLaws.{held-day}
+use Rattle.spans.specs.MonthLaws.{week-same}
 use Rattle.spans.specs.RuleLaws.{on-weekly, shows-on, shows-both}
 use Rattle.spans.specs.WaitLaws.{shows-out, not-yet, no-more, spanned-less, spanned-not}
 use Rattle.spans.specs.GapLaws.{months-apart}
@@ -70,10 +69,6 @@ within-dates : (r : Rule) (p : ℕ) → r .first ≤ dateIn p → dateIn p ≤ r
 unfolding inDates
 within-dates r p a b = is-ge a _ _ ∙ is-ge b _ _
 
-same-weekday : (n : ℕ) → factsOf (n + 7) .weekday ≡ factsOf n .weekday
-unfolding factsOf
-same-weekday n = let a = weekday-formula n in let b = weekday-formula (n + 7) in omega arith
-
 module _ {first : ℕ} {days : List ℕ} (s : Spanned first days) (c : ShortMonth) (r : Rule) where
   abbrev shown : ℕ → Bool
   shown k = ruleShows c r (getD days k 0)
@@ -81,9 +76,9 @@ module _ {first : ℕ} {days : List ℕ} (s : Spanned first days) (c : ShortMont
   week-later : (j : ℕ) → j + 7 < length days → weekdayIn (getD days (j + 7) 0) ≡ weekdayIn (getD days j 0)
   week-later j h =
       let e : first + (j + 7) ≡ first + j + 7 = omega arith in
-      let a = held (facts-known (first + j) (omega (arith, s .end))) .weekday in
-      let b = held (facts-known (first + j + 7) (omega (arith, s .end))) .weekday in
-      let w = same-weekday (first + j) in
+      let a = held-day (first + j) (omega (arith, s .end)) .weekday in
+      let b = held-day (first + j + 7) (omega (arith, s .end)) .weekday in
+      let w = week-same (first + j) in
       rw (s .each j (omega arith), s .each (j + 7) h, e) (omega arith)
 
   past : (j k : ℕ) → j ≤ k → k < length days → r .last < dateIn (getD days j 0) → shown k ≡ false

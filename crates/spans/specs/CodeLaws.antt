@@ -58,6 +58,9 @@ pub record Held (f : DayFacts) (p : ℕ) : Type 0 where
 pub held : {f : DayFacts} → Known f → Held f (dayCode f)
 held {f} k = let d = k .date in omega arith
 
+pub held-day : (n : ℕ) → n ≤ lastDay → Held (factsOf n) (dayCode (factsOf n))
+held-day n h = held (facts-known n h)
+
 -- the order of dates is that of their codes
 pub before-code : {a b : Date} → Fits a → Fits b → {X : Type 0} (x y : X) → ifB (before a b) x y ≡ ifLt (dateCode a) (dateCode b) x y
 unfolding before

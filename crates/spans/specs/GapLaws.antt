@@ -1,6 +1,6 @@
 -- Two days on which a rule of months shows lie at least 28 days apart, since no month is shorter.
 -- Assumes nothing.
-use Prim.Native.Nat.{ℕ, _+_, _*_, _/_, _%_, _<_, _≤_}
+use Prim.Native.Nat.{ℕ, _+_, _*_, _/_, _<_, _≤_}
 use mathlib.Core.Path.{_≡_, sym, _∙_}
 use mathlib.Core.Bool.{true, false, false≢true}
 use mathlib.Core.Logic.{_⊎_, inl, inr, ⊎-elim}
@@ -8,12 +8,11 @@ use native.Mathlib.Omega.{arith}
 use Rattle.prelude.specs.Choice.{ifEq, lt-elim, eq-elim, eq-take}
 use Rattle.days.specs.Days.{lastDay}
 use Rattle.days.specs.Facts.{factsOf}
-use Rattle.days.specs.DayLaws.{weekday-formula}
 use Rattle.falls.specs.declared.types.ShortMonth.{ShortMonth}
 use Rattle.spans.specs.Codes.{dayCode, monthIn, dayIn, weekdayIn, lengthIn}
 use Rattle.spans.specs.Rules.{missingShows, dayShows, ruleShows}
-use Rattle.spans.specs.CodeLaws.{facts-known, Held, held}
-use Rattle.spans.specs.MonthLaws.{in-month, over-month, in-length, length-least}
+use Rattle.spans.specs.CodeLaws.{held-day}
+use Rattle.spans.specs.MonthLaws.{in-month, over-month, in-length, length-least, weeks-apart}
 use Rattle.spans.specs.RuleLaws.{on-by-date, on-by-position, on-yearly, on-other, shows-both}
 use Rattle.spans.specs.declared.types.Rule.{Rule}
 
@@ -47,13 +46,6 @@ not-same n s x =
     let f = n .least in
     ⊎-elim (λ m. omega arith) (λ m. omega arith) (n .later)
 
-whole-weeks : (n i : ℕ) → (n + 2) % 7 ≡ (n + i + 2) % 7 → 7 * (i / 7) ≡ i
-whole-weeks n i e = omega arith
-
-weeks-apart : (n i : ℕ) → factsOf n .weekday ≡ factsOf (n + i) .weekday → 7 * (i / 7) ≡ i
-unfolding factsOf
-weeks-apart n i e = let a = weekday-formula n in let b = weekday-formula (n + i) in whole-weeks n i (omega arith)
-
 -- what a rule that shows says of the day
 missing-shown : (c : ShortMonth) (p : ℕ) → missingShows c p ≡ true → dayIn p ≡ lengthIn p
 unfolding missingShows
@@ -74,16 +66,10 @@ module _ (n i : ℕ) (last : n + i ≤ lastDay) (one : 1 ≤ i) (less : i < 28) 
   abbrev q : ℕ
   q = dayCode (factsOf (n + i))
 
-  hp : Held (factsOf n) p
-  hp = held (facts-known n (omega arith))
-
-  hq : Held (factsOf (n + i)) q
-  hq = held (facts-known (n + i) last)
-
   near : Near i (dayIn p) (lengthIn p) (dayIn q) (lengthIn q)
   near =
-      let a = hp in
-      let b = hq in
+      let a = held-day n (omega arith) in
+      let b = held-day (n + i) last in
       let e = in-length n (omega arith) in
       let f = length-least n (omega arith) in
       record {
@@ -104,7 +90,8 @@ module _ (n i : ℕ) (last : n + i ≤ lastDay) (one : 1 ≤ i) (less : i < 28) 
       let y = eq-take (weekdayIn q) a _ _ false≢true f in
       let u = eq-take ((dayIn p + 6) / 7) b true false false≢true (x .1) .0 in
       let v = eq-take ((dayIn q + 6) / 7) b true false false≢true (y .1) .0 in
-      not-same near (weeks-apart n i (sym (hp .weekday) ∙ x .0 ∙ sym (y .0) ∙ hq .weekday)) (u ∙ sym v)
+      let w = sym (held-day n (omega arith) .weekday) ∙ x .0 ∙ sym (y .0) ∙ held-day (n + i) last .weekday in
+      not-same near (weeks-apart n i w) (u ∙ sym v)
 
   -- a rule of months shows on one of them at most
   pub months-apart : (c : ShortMonth) (r : Rule) → (r .kind ≡ 1 → ⊥) → (r .kind ≡ 2 → ⊥) → ruleShows c r p ≡ true → ruleShows c r q ≡ true → ⊥

@@ -1,6 +1,6 @@
 -- The days after a day: within its month only the day of the month grows, in the next one it begins anew; codes of dates rise.
 -- Assumes nothing.
-use Prim.Native.Nat.{ℕ, zero, suc, _+_, _-_, _%_, _<_, _≤_}
+use Prim.Native.Nat.{ℕ, zero, suc, _+_, _-_, _*_, _/_, _%_, _<_, _≤_}
 use mathlib.Core.Path.{_≡_, sym, _∙_, ap}
 use native.Mathlib.Omega.{arith}
 use native.Mathlib.Nat.{add-zero, add-suc}
@@ -105,3 +105,15 @@ code-less n m l h =
 pub weekday-later : (n i : ℕ) → factsOf (n + i) .weekday ≡ (factsOf n .weekday + 6 + i) % 7 + 1
 unfolding factsOf
 weekday-later n i = let a = weekday-formula n in let b = weekday-formula (n + i) in omega arith
+
+-- it is the same a week later, and on no other days than those whole weeks later
+pub week-same : (n : ℕ) → factsOf (n + 7) .weekday ≡ factsOf n .weekday
+unfolding factsOf
+week-same n = let a = weekday-formula n in let b = weekday-formula (n + 7) in omega arith
+
+whole-weeks : (n i : ℕ) → (n + 2) % 7 ≡ (n + i + 2) % 7 → 7 * (i / 7) ≡ i
+whole-weeks n i e = omega arith
+
+pub weeks-apart : (n i : ℕ) → factsOf n .weekday ≡ factsOf (n + i) .weekday → 7 * (i / 7) ≡ i
+unfolding factsOf
+weeks-apart n i e = let a = weekday-formula n in let b = weekday-formula (n + i) in whole-weeks n i (omega arith)

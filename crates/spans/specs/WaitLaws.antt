@@ -13,7 +13,7 @@ use Rattle.days.specs.declared.types.DayFacts.{DayFacts}
 use Rattle.falls.specs.declared.types.ShortMonth.{ShortMonth}
 use Rattle.spans.specs.Codes.{dayCode, dateIn, monthIn, dayIn, weekdayIn, lengthIn, Spanned}
 use Rattle.spans.specs.Rules.{missingShows, dayShows, onDate, inDates, ruleShows, toMonth, toDay, toWeekday, toDate, waitFor}
-use Rattle.spans.specs.CodeLaws.{Known, facts-known, Held, held}
+use Rattle.spans.specs.CodeLaws.{Known, facts-known, Held, held-day}
 use Rattle.spans.specs.MonthLaws.{Later, in-month, in-length, later-code, code-less, weekday-later}
 use Rattle.spans.specs.RuleLaws.{on-weekly, on-by-date, on-by-position, on-yearly, on-other, shows-off}
 use Rattle.spans.specs.declared.types.Rule.{Rule}
@@ -78,10 +78,10 @@ module _ (n i : ℕ) (last : n + i ≤ lastDay) where
   q = dayCode (factsOf (n + i))
 
   hp : Held (factsOf n) p
-  hp = held (facts-known n (omega arith))
+  hp = held-day n (omega arith)
 
   hq : Held (factsOf (n + i)) q
-  hq = held (facts-known (n + i) last)
+  hq = held-day (n + i) last
 
   other-weekday : (a : ℕ) → 1 ≤ i → i < toWeekday p a → weekdayIn q ≡ a → ⊥
   other-weekday a one l e = let w = weekday-later n i in let a = hp .weekday in let b = hq .weekday in let k = facts-known n (omega arith) .weekday in omega arith
@@ -173,8 +173,8 @@ wait-least r p =
 -- dates rise along codes in a row
 pub spanned-less : {first : ℕ} {days : List ℕ} → Spanned first days → (j k : ℕ) → j < k → k < length days → dateIn (getD days j 0) < dateIn (getD days k 0)
 spanned-less {first} {days} s j k less inside =
-    let a = held (facts-known (first + j) (omega (arith, s .end))) .date in
-    let b = held (facts-known (first + k) (omega (arith, s .end))) .date in
+    let a = held-day (first + j) (omega (arith, s .end)) .date in
+    let b = held-day (first + k) (omega (arith, s .end)) .date in
     rw (s .each j (omega arith), s .each k inside) (omega (arith, a, b, code-less (first + j) (first + k) (omega arith) (omega (arith, s .end))))
 
 -- the waits of codes in a row

@@ -26,7 +26,8 @@ fn count_to(date: u32) -> u32 {
     365 * year + year / 4 + (979 * month + 8793) / 32 + day
 }
 
-// On to the first day that is not before a date, in a span from day `first` on: past days that are all before it.
+// The place of a date in a span from day `first` on, or one before it: no day that is passed has that date or a later one.
+// How far it goes is no part of the promise.
 pub fn on_to(date: u32, first: usize, days: &[u32]) -> usize
     requires { ⌜ Spanned first (now days) ⌝ }
     ensures { λ n. ⌜ Ahead (now (days .entry)) date n ⌝ }

@@ -9,6 +9,7 @@ use lib.ListN.{length, getD}
 use Rattle.prelude.specs.Choice.{lt-elim}
 use Rattle.spans.specs.Rules.{ruleShows}
 use Rattle.spans.specs.WaitLaws.{wait-least, spanned-not}
+use Rattle.spans.specs.NextLaws.{next-hit}
 use Rattle.spans.proofs.hits.next_from.Statement.{statement}
 use Rattle.spans.proofs.hits.next_from.Tie as tie
 
@@ -33,12 +34,7 @@ rule-shows-requires c κs = search needs
 returns : tie.Need-returns Inv-loop μ-loop
 returns c =
     let l = c .before .before .before .before in
-    record {
-      low = omega arith;
-      high = omega arith;
-      none = λ k a b. l .loop .inv .1 k a b (omega arith);
-      hit = λ _. sym (c .before .rule-shows .ensures) ∙ c .if1 .taken;
-    }
+    next-hit (omega arith) (omega arith) (λ k a b. l .loop .inv .1 k a b (omega arith)) (sym (c .before .rule-shows .ensures) ∙ c .if1 .taken)
 
 wait-for-requires : tie.Need-wait-for-requires Inv-loop μ-loop
 wait-for-requires c κs = search needs
