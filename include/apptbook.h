@@ -37,7 +37,7 @@ enum {
     APPTBOOK_BAD_LENGTH = 6,          /* a record's length too small for what it holds, or text over 27 bytes */
     APPTBOOK_BAD_FIELD = 7,           /* a field outside its range */
     APPTBOOK_BAD_TEXT = 8,            /* text or note against its rule */
-    APPTBOOK_AFTER_END = 9,           /* bytes after the end record */
+    APPTBOOK_AFTER_END = 9,           /* over 127 bytes after the end record, or one that is not 1Ah */
     APPTBOOK_NO_SUCH_NUMBER = 10,     /* no record, line, descriptor or appointment of that number */
     APPTBOOK_OUT_OF_RANGE = 11,       /* day, date or span handed over outside its range */
     APPTBOOK_NO_ROOM = 12,            /* lent buffer shorter than what is to be written */
@@ -140,8 +140,12 @@ apptbook_day_answer apptbook_psion_of_calendar(uint16_t day);
  * Each call judges the whole file first and refuses it with APPTBOOK_BOOK_TOO_LONG (1) to
  * APPTBOOK_AFTER_END (9). Of several faults the first in this order counts: 1, 2, 3; then record by
  * record 4 for the three head bytes, 5, 4 for the body, 6, 7, 8; after the end record 9. The place is 0
- * for 1 and 2, 5 for 3, the record's type byte for 4 to 8, and for 9 the first byte after the end
- * record. A file without an end record is 4 at the place behind its last record.
+ * for 1 and 2, 5 for 3, and the record's type byte for 4 to 8; for 9 it is the first byte after the end
+ * record where more than 127 follow it, else the first of them that is not 1Ah. A file without an end
+ * record is 4 at the place behind its last record.
+ *
+ * Up to 127 bytes 1Ah after the end record, as a modem fills up its blocks of 128, are accepted. They
+ * count in the size that 1 limits, and no other answer depends on them.
  *
  * Only then comes APPTBOOK_NO_SUCH_NUMBER (10), with place 0.
  *
@@ -291,7 +295,8 @@ apptbook_writer apptbook_add(apptbook_writer state, uint8_t *buffer, size_t len,
                              const uint8_t *text, size_t text_len, const uint8_t *note, size_t note_len);
 
 /*
- * Ends the book by its end record, 32 00 00 in hexadecimal; used grows by 3 and the state is closed.
+ * Ends the book by its end record, 32 00 00 in hexadecimal; used grows by 3 and the state is closed. No
+ * filling follows.
  *
  * Refused, in this order:
  *   14  used is below 12, or the state is closed;

@@ -1,4 +1,4 @@
-//! Document 01, "The book": the whole file. Every call judges all of it before it answers.
+//! Document 01, "The book", with request R-1: the whole file. Every call judges all of it before it answers.
 
 use crate::notes;
 use crate::records::{self, Record, HEAD, LAST_MINUTE, LONGEST_LEAD};
@@ -8,6 +8,10 @@ use std::ops::Range;
 pub const LONGEST: usize = 65_535;
 pub const IDENTIFICATION: [u8; 5] = [0xFF, 0xFF, 0x01, 0x00, 0x01];
 const SETTINGS: Range<usize> = 5..12;
+
+/// What a file from a modem is filled up with, to whole blocks of 128 bytes.
+const FILLER: u8 = 0x1A;
+const MOST_FILLERS: usize = 127;
 
 #[derive(Clone, Copy, Debug, PartialEq, Eq)]
 pub struct Settings {
@@ -79,14 +83,22 @@ pub(crate) fn read(file: &[u8], mut show: impl FnMut(Record)) -> Result<Settings
         let body = at + HEAD..at + HEAD + length;
         match kind {
             1..=6 => (),
-            50 if length == 0 && body.end == file.len() => return Ok(settings),
-            50 if length == 0 => return Err(Refusal { number: 9, place: body.end }),
+            50 if length == 0 => return fillers(file, body.end).map(|()| settings),
             _ => return Err(refusal(5)),
         }
         let bytes = file.get(body.clone()).ok_or(refusal(4))?;
         show(records::read(kind, at, bytes).map_err(refusal)?);
         at = body.end;
     }
+}
+
+/// What stands from there on, after the end record: no more fillers than there may be, and nothing else.
+fn fillers(file: &[u8], end: usize) -> Result<(), Refusal> {
+    let wrong = match file.len() - end {
+        0..=MOST_FILLERS => file[end..].iter().position(|&byte| byte != FILLER),
+        _ => Some(0),
+    };
+    wrong.map_or(Ok(()), |at| Err(Refusal { number: 9, place: end + at }))
 }
 
 fn settings(bytes: &[u8]) -> Option<Settings> {

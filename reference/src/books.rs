@@ -3,6 +3,8 @@
 mod damage;
 mod drafts;
 mod edges;
+mod file;
+mod fillers;
 mod near;
 mod spans;
 
@@ -10,8 +12,10 @@ use crate::book::{IDENTIFICATION, LONGEST};
 use crate::rng::Rng;
 pub use damage::{changes, Change, DAMAGES};
 use drafts::low_first;
-pub use drafts::{full_note, letters, Draft, Field, File, SETTINGS};
+pub use drafts::{full_note, letters, Draft, Field, SETTINGS};
 pub use edges::edge_notes;
+pub use file::File;
+pub use fillers::FILLER;
 pub use near::{book_near, edge_day, near};
 pub use spans::{book_of_span, crowded, Span, CROWDED_SPAN};
 
@@ -34,7 +38,8 @@ impl Iterator for Cases {
     fn next(&mut self) -> Option<Case> {
         Some(match self.rng.below(1_000) {
             0..2 => self.full(),
-            2..200 => self.right(),
+            2..4 => self.overfilled(),
+            4..200 => self.right(),
             200..450 => self.changed(),
             450..570 => self.changed_often(),
             570..670 => self.damaged(),
@@ -60,14 +65,15 @@ impl Cases {
     fn right(&mut self) -> Case {
         let records = self.records(0);
         let file = File::random(&records, &mut self.rng);
-        Case { name: "right".into(), file: file.bytes, answer: Some((0, 0)) }
+        let name = if file.bytes.len() == file.after_end() { "right" } else { "right, with fillers" };
+        Case { name: name.into(), file: file.bytes, answer: Some((0, 0)) }
     }
 
-    /// Near or at the greatest size: many small records, few long ones, any, or a single one.
+    /// Near or at the greatest size, with its fillers: many small records, few long ones, any, or a single one.
     fn full(&mut self) -> Case {
         let Cases { rng, .. } = self;
         let size = if rng.one_in(2) { LONGEST } else { rng.within(LONGEST - 20_000..=LONGEST) };
-        let style = rng.below(4);
+        let (style, fillers) = (rng.below(4), fillers::some(size, rng));
         let mut record = || {
             let kind = rng.within(1..=6) as u8;
             match style {
@@ -76,8 +82,15 @@ impl Cases {
                 _ => Draft::random(kind, rng),
             }
         };
-        let file = if style < 3 { File::full(size, record) } else { File::padded(size, vec![record()]) };
+        let book = size - fillers;
+        let mut file = if style < 3 { File::full(book, record) } else { File::padded(book, vec![record()]) };
+        file.fill(fillers);
         Case { name: format!("full, style {style}"), file: file.bytes, answer: Some((0, 0)) }
+    }
+
+    fn overfilled(&mut self) -> Case {
+        let file = fillers::overfilled(&mut self.rng);
+        Case { name: "overfilled".into(), file: file.bytes, answer: Some((1, 0)) }
     }
 
     /// One record is changed in one way.
@@ -153,7 +166,7 @@ impl Cases {
             let at = if rng.one_in(8) { rng.within(0..=11) } else { rng.within(0..=file.len() - 1) };
             file[at] = match rng.below(4) {
                 0 => rng.u8(),
-                1 => rng.pick(&[0, 1, 2, 3, 4, 5, 6, 50, 255]),
+                1 => rng.pick(&[0, 1, 2, 3, 4, 5, 6, 26, 50, 255]),
                 2 => file[at].wrapping_add(1),
                 _ => file[at].wrapping_sub(1),
             };

@@ -3,9 +3,9 @@
 //!
 //! One module for each layer: `days` here is the plain one, `ffi::days` the proved one. Beside them:
 //! `vectors`, files written out by hand; `books` and `calendars`, which make files at random, and `writings`,
-//! which makes runs of writing calls; `civil` and `occurrences`, a third way to compute dates and when a
-//! record falls; `fuzz`, hostile inputs for every call and for the program; `callgrind`, which counts
-//! instructions.
+//! which makes runs of writing calls; `cases`, which reads the open vectors; `calls`, the calls of both
+//! implementations; `civil` and `occurrences`, a third way to compute dates and when a record falls; `fuzz`,
+//! hostile inputs for every call and for the program; `callgrind`, which counts instructions.
 
 pub mod across_c;
 pub mod book;
@@ -13,6 +13,8 @@ pub mod books;
 pub mod calendar;
 pub mod calendars;
 pub mod callgrind;
+pub mod calls;
+pub mod cases;
 pub mod civil;
 pub mod days;
 pub mod export;

@@ -1,9 +1,10 @@
-//! Books written out by hand, byte for byte, with what a reader is to give; Calendar files, pages and command
-//! lines in the files beside.
+//! Books written out by hand, byte for byte, with what a reader is to give; Calendar files, pages, command lines and
+//! bytes after the end in the files beside.
 
 pub mod calendars;
 pub mod commands;
 pub mod exports;
+pub mod fillers;
 pub mod pages;
 
 use crate::days::Date;

@@ -342,7 +342,7 @@ pub fn pattern(room: usize) -> Vec<u8> {
     (0..room + 2 * MARGIN).map(|at| 0xA5 ^ (at as u8).wrapping_mul(37)).collect()
 }
 
-/// A right book without padding, and without the state bits that have no name.
+/// A right book without padding and fillers, and without the state bits that have no name.
 pub fn bare(file: &[u8]) -> Vec<u8> {
     let mut bare = file[..12].to_vec();
     for record in book::records(file).expect("a right book") {

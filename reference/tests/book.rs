@@ -7,6 +7,7 @@ use reference::notes;
 use reference::records::Record;
 use reference::refusal::{Refusal, NO_SUCH_NUMBER};
 use reference::rng::Rng;
+use reference::vectors::fillers;
 use reference::vectors::{every_kind, with_faults, CUTS, FAULTS, SEVERAL_FAULTS, WHOLE_CASE};
 
 #[test]
@@ -222,6 +223,51 @@ fn faults_by_hand() {
     for &(changes, length, number, place) in SEVERAL_FAULTS {
         println!("{changes:?}, length {length}");
         is_refused_book(&with_faults(changes, length), Refusal { number, place });
+    }
+}
+
+/// What comes after the end record, or would if there were one.
+mod after_the_end {
+    use super::*;
+
+    fn are_judged(cases: impl IntoIterator<Item = fillers::Case>) {
+        for fillers::Case { name, file, answer: (number, place) } in cases {
+            let BookAnswer { number: given, place: at, .. } = proved::read_book(&file);
+            assert_eq!((given, at), (number, place), "{name}");
+            compare(&file, &name);
+        }
+    }
+
+    #[test]
+    fn every_number_of_fillers() {
+        are_judged(fillers::every_number());
+    }
+
+    #[test]
+    fn every_wrong_byte() {
+        are_judged(fillers::every_wrong_one());
+        are_judged(fillers::two_wrong_ones());
+        are_judged(fillers::too_many_and_a_wrong_one());
+    }
+
+    #[test]
+    fn the_greatest_size() {
+        are_judged(fillers::the_greatest_size());
+    }
+
+    #[test]
+    fn records_come_first() {
+        are_judged(fillers::faults_in_records());
+    }
+
+    #[test]
+    fn no_end_record() {
+        are_judged(fillers::without_an_end());
+    }
+
+    #[test]
+    fn padding_is_no_filler() {
+        are_judged(fillers::padding());
     }
 }
 

@@ -9,6 +9,7 @@ use reference::export::export;
 use reference::pages::{page, ShortMonth};
 use reference::program::ROOM;
 use reference::rng::Rng;
+use reference::vectors::fillers::filled;
 use reference::vectors::{every_kind, WHOLE_CASE};
 use reference::{book, days};
 use std::io::Write;
@@ -81,6 +82,7 @@ fn excerpts_by_hand() {
     assert_eq!(run(&["4822"], &of_the_crate("stdin")), of_the_crate("stdout"));
     assert_eq!(run(&["4822"], &WHOLE_CASE), b"Dep\n\nDep\nDep\n");
     assert_eq!(run(&["4821"], &WHOLE_CASE), b"Dep\n\n");
+    assert_eq!(run(&["4822"], &filled(95)), b"Dep\n\nDep\nDep\n");
     let texts = b"\n\nGo\na\0\0b\nR\n\nJudge's list, fifth Sunday!\n\nDep\n\0\nFile\n\n\n\n";
     assert_eq!(run(&["4823"], &every_kind()), [&texts[..], b"Go\nGo\n"].concat());
     assert_eq!(run(&["0"], &every_kind()), [&texts[..], b"\n\n"].concat());
@@ -99,6 +101,7 @@ fn words_and_refusals() {
     }
     assert_eq!(run(&["4822"], &[]), b"");
     assert_eq!(run(&["4822"], &[&WHOLE_CASE[..], &[0]].concat()), b"");
+    assert_eq!(run(&["4822"], &filled(128)), b"");
 }
 
 #[test]

@@ -1,11 +1,13 @@
 //! Short runs of hostile inputs; long ones are run by `cargo run --release --bin fuzz -- SECONDS`.
 
+use reference::book as plain_book;
 use reference::books::{book_of_span, crowded, Span};
 use reference::ffi::{book, export, pages};
 use reference::fuzz::calls::Fuzz;
-use reference::fuzz::{program, Tally};
+use reference::fuzz::{files, program, Tally};
 use reference::pages::ShortMonth::{Last, Skip};
 use reference::printed;
+use reference::refusal::Refusal;
 use reference::rng::Rng;
 use std::path::{Path, PathBuf};
 use std::sync::Barrier;
@@ -55,6 +57,27 @@ fn hostile_calls() {
         assert!(numbers.iter().all(|number| seen.contains_key(number)), "{call}: {seen:?}");
     }
     assert_eq!(fuzz.tally.counts.len(), CALLS.len());
+}
+
+/// Books end with fillers in all ways: right ones, a wrong byte among them, too many, too many and a wrong one.
+#[test]
+fn hostile_fillers() {
+    let mut rng = Rng::for_test("hostile_fillers");
+    let mut counts = [0; 4];
+    for _ in 0..3_000 {
+        let file = files::book(&mut rng);
+        let fillers = |bytes: &[u8]| bytes.iter().all(|&byte| byte == 0x1A);
+        let kind = match plain_book::read_book(&file) {
+            Ok(_) if file.ends_with(&[0x1A]) => 0,
+            Err(Refusal { number: 9, place }) if file.len() - place <= 127 && file[place - 1] == 0x1A => 1,
+            Err(Refusal { number: 9, place }) if fillers(&file[place..]) => 2,
+            Err(Refusal { number: 9, place }) if fillers(&file[place..place + 1]) => 3,
+            _ => continue,
+        };
+        counts[kind] += 1;
+    }
+    println!("right, wrong, too many, too many and wrong: {counts:?}");
+    assert!(counts.iter().all(|&count| count >= 10), "{counts:?}");
 }
 
 /// From four threads at once: each call gives what the reference gives, whatever the others ask for.

@@ -6,6 +6,7 @@ use reference::days::Date;
 use reference::records::{Entry, Record, Times};
 use reference::refusal::{Refusal, NO_SUCH_NUMBER};
 use reference::rng::Rng;
+use reference::vectors::fillers;
 use reference::vectors::{every_kind, every_kind_records, with_faults};
 use reference::vectors::{CUTS, FAULTS, SEVERAL_FAULTS, WHOLE_CASE};
 use std::collections::BTreeMap;
@@ -78,6 +79,49 @@ fn faults_by_hand() {
     assert_eq!(judged(&[every_kind(), vec![0]].concat()), (9, 183));
     for &(changes, length, number, place) in SEVERAL_FAULTS {
         assert_eq!(judged(&with_faults(changes, length)), (number, place), "{changes:?}, length {length}");
+    }
+}
+
+/// What comes after the end record, or would if there were one.
+mod after_the_end {
+    use super::{fillers, judged};
+
+    fn are_judged(cases: impl IntoIterator<Item = fillers::Case>) {
+        for fillers::Case { name, file, answer } in cases {
+            assert_eq!(judged(&file), answer, "{name}");
+        }
+    }
+
+    #[test]
+    fn every_number_of_fillers() {
+        are_judged(fillers::every_number());
+    }
+
+    #[test]
+    fn every_wrong_byte() {
+        are_judged(fillers::every_wrong_one());
+        are_judged(fillers::two_wrong_ones());
+        are_judged(fillers::too_many_and_a_wrong_one());
+    }
+
+    #[test]
+    fn the_greatest_size() {
+        are_judged(fillers::the_greatest_size());
+    }
+
+    #[test]
+    fn records_come_first() {
+        are_judged(fillers::faults_in_records());
+    }
+
+    #[test]
+    fn no_end_record() {
+        are_judged(fillers::without_an_end());
+    }
+
+    #[test]
+    fn padding_is_no_filler() {
+        are_judged(fillers::padding());
     }
 }
 
@@ -166,8 +210,10 @@ fn a_fault_among_others() {
     }
 }
 
-const FAMILIES: [&str; 10] = [
+const FAMILIES: [&str; 12] = [
     "right",
+    "right, with fillers",
+    "overfilled",
     "full, style 0",
     "full, style 1",
     "full, style 2",

@@ -5,7 +5,8 @@ use reference::pages::ShortMonth;
 use reference::program::output;
 use reference::vectors::calendars::{empty, whole_case};
 use reference::vectors::commands::{CUT_BOOKS, PAGES, REFUSALS};
-use reference::vectors::commands::{EMPTY_EXPORTS, EXPORTS, EXPORT_REFUSALS};
+use reference::vectors::commands::{EMPTY_EXPORTS, EXPORTS, EXPORT_REFUSALS, FILLED_BOOKS};
+use reference::vectors::fillers::filled;
 use reference::vectors::pages::{self, Shown};
 use reference::vectors::WHOLE_CASE;
 
@@ -57,6 +58,22 @@ fn the_book_comes_first() {
         }
         assert_eq!(output(&words(command), &[0; 65_536]), b"1 0\n");
         assert_eq!(output(&words(command), &[&WHOLE_CASE[..], b"\n"].concat()), b"9 33\n");
+    }
+}
+
+#[test]
+fn filled_books() {
+    for (command, expected) in PAGES.iter().chain(REFUSALS) {
+        assert_eq!(output(&words(command), &filled(95)), *expected, "{command:?}");
+    }
+    for command in EXPORTS {
+        assert_eq!(output(&words(command), &filled(95)), whole_case(), "{command:?}");
+    }
+    for (after, expected) in FILLED_BOOKS {
+        let book = [&WHOLE_CASE[..], after].concat();
+        for command in [PAGES[0].0, EXPORTS[0], REFUSALS[0].0] {
+            assert_eq!(output(&words(command), &book), *expected, "{after:?}");
+        }
     }
 }
 

@@ -7,6 +7,7 @@ use reference::ffi::book::RecordAnswer;
 use reference::records::{Entry, Times};
 use reference::refusal::Refusal;
 use reference::rng::Rng;
+use reference::vectors::fillers::{filled, fillers};
 use reference::vectors::{every_kind, every_kind_records, EVERY_KIND_WRITTEN, WHOLE_CASE};
 use reference::vectors::{ADDINGS, CLOSINGS, OPENINGS};
 use reference::writer::{self, NewRecord, Writer};
@@ -236,16 +237,36 @@ fn written(file: &[u8], room: usize) -> Vec<u8> {
 }
 
 #[test]
+fn fillers_are_not_written() {
+    let every_kind_written = EVERY_KIND_WRITTEN.concat();
+    for count in 0..=127 {
+        assert_eq!(written(&filled(count), 33), WHOLE_CASE, "{count}");
+        let file = [every_kind(), fillers(count)].concat();
+        assert_eq!(written(&file, every_kind_written.len()), every_kind_written, "{count}");
+    }
+}
+
+/// A book with no fillers, padding and other bits comes out as it went in; one that has but fillers, without them.
+#[test]
 fn right_books_written_again() {
-    let mut as_they_were = 0;
-    let cases = Cases::new(Rng::for_test("right_books_written_again"));
+    let mut rng = Rng::for_test("right_books_written_again");
+    let (mut as_they_were, mut but_for_fillers) = (0, 0);
+    let cases = Cases::new(Rng::new(rng.u64()));
     for case in cases.filter(|case| case.answer == Some((0, 0))).take(10_000) {
         let bare = bare(&case.file);
         let written = written(&case.file, bare.len());
         assert!(written == bare, "{}: {:?}", case.name, case.file);
         assert!(self::written(&bare, bare.len()) == bare);
+        let fillers = fillers(rng.within(1..=127).min(LONGEST - bare.len()));
+        assert!(self::written(&[&bare[..], &fillers].concat(), bare.len()) == bare);
         as_they_were += usize::from(bare == case.file);
+        but_for_fillers += usize::from(is_filled(&case.file, &bare));
     }
-    println!("written as they were: {as_they_were}");
-    assert!(as_they_were > 0);
+    println!("written as they were: {as_they_were}, but for fillers: {but_for_fillers}");
+    assert!(as_they_were > 0 && but_for_fillers > 0);
+}
+
+/// Whether the file is this book and fillers.
+fn is_filled(file: &[u8], book: &[u8]) -> bool {
+    file.len() > book.len() && file == [book, &fillers(file.len() - book.len())].concat()
 }

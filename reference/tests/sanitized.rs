@@ -4,6 +4,7 @@
 use reference::fuzz::files;
 use reference::pages::{ShortMonth, CHOICES};
 use reference::rng::Rng;
+use reference::vectors::fillers::filled;
 use reference::vectors::{calendars, every_kind, WHOLE_CASE};
 use reference::writer::{self, NewRecord};
 use reference::{book, calendar, export, ffi, notes, pages, printed};
@@ -176,6 +177,7 @@ fn every_byte_that_an_answer_points_to() {
     fs::create_dir_all(&folder).expect("a folder");
     let mut all =
         vec![vec![], WHOLE_CASE.to_vec(), every_kind(), calendars::whole_case(), calendars::two_days()];
+    all.extend([1, 95, 127, 128].map(filled));
     for _ in 0..300 {
         all.extend([files::book(&mut rng), files::calendar(&mut rng)]);
     }

@@ -8,6 +8,7 @@ use reference::ffi::writer::{self as proved, WriterAnswer};
 use reference::notes;
 use reference::records::Record;
 use reference::rng::Rng;
+use reference::vectors::fillers::{filled, fillers};
 use reference::vectors::{every_kind, every_kind_records, EVERY_KIND_WRITTEN, WHOLE_CASE};
 use reference::vectors::{ADDINGS, CLOSINGS, OPENINGS};
 use reference::writer::{self as plain, NewRecord, Writer};
@@ -379,20 +380,40 @@ fn written(file: &[u8], room: usize) -> Vec<u8> {
     bytes[MARGIN..MARGIN + room].to_vec()
 }
 
-/// A bare book comes out as it went in, any other without its padding and the bits that have no name.
+#[test]
+fn fillers_are_not_written() {
+    let every_kind_written = EVERY_KIND_WRITTEN.concat();
+    for count in 0..=127 {
+        assert_eq!(written(&filled(count), 33), WHOLE_CASE, "{count}");
+        let file = [every_kind(), fillers(count)].concat();
+        assert_eq!(written(&file, every_kind_written.len()), every_kind_written, "{count}");
+    }
+}
+
+/// A bare book comes out as it went in, any other without its fillers, its padding and the bits that have no name.
 #[test]
 fn right_books_written_again() {
-    let mut as_they_were = 0;
-    let cases = Cases::new(Rng::for_test("right_books_written_again"));
+    let mut rng = Rng::for_test("right_books_written_again");
+    let (mut as_they_were, mut but_for_fillers) = (0, 0);
+    let cases = Cases::new(Rng::new(rng.u64()));
     for case in cases.filter(|case| case.answer == Some((0, 0))).take(20_000) {
         let bare = bare(&case.file);
         assert!(written(&case.file, bare.len()) == bare, "{}: {:?}", case.name, case.file);
         assert!(written(&bare, bare.len()) == bare, "{}, bare: {bare:?}", case.name);
+        let fillers = fillers(rng.within(1..=127).min(65_535 - bare.len()));
+        let filled = [&bare[..], &fillers].concat();
+        assert!(written(&filled, bare.len()) == bare, "{}, filled: {filled:?}", case.name);
         as_they_were += usize::from(bare == case.file);
+        but_for_fillers += usize::from(is_filled(&case.file, &bare));
         same_records(&case.file, &bare);
     }
-    println!("written as they were, not counting those made bare before: {as_they_were}");
-    assert!(as_they_were > 0);
+    println!("written as they were: {as_they_were}, but for fillers: {but_for_fillers}");
+    assert!(as_they_were > 0 && but_for_fillers > 0);
+}
+
+/// Whether the file is this book and fillers.
+fn is_filled(file: &[u8], book: &[u8]) -> bool {
+    file.len() > book.len() && file == [book, &fillers(file.len() - book.len())].concat()
 }
 
 /// The proved reader gives the same settings and fields, with other places, and the same texts and notes.

@@ -13,7 +13,8 @@ use Rattle.prelude.specs.declared.refusals.Verdict.{Verdict}
 use Rattle.prelude.specs.declared.refusals.Refusal.{Refusal}
 use Rattle.book.specs.Settings.{identified, settingsOf, settingsOk}
 use Rattle.book.specs.Walk.{nextPlace, stepAt, Walk, more, ended, stopped, walkFrom, walkOf, placesIn}
-use Rattle.book.specs.Books.{afterEndRecord, accepted, counted, bookOf, placesOf}
+use Rattle.book.specs.Fillers.{afterEndRecord}
+use Rattle.book.specs.Books.{accepted, counted, bookOf, placesOf}
 use Rattle.book.specs.WalkLaws.{At, at-first, at-next, RecordAt, step-record, walk-record, walk-end, walk-stop}
 use Rattle.book.specs.declared.types.Settings.{Settings}
 use Rattle.book.specs.declared.types.Book.{Book}
@@ -69,6 +70,14 @@ book-accepted f {b} e =
       settings = h .0;
       count = h .1 ∙ zero-add _;
     }
+
+-- what is behind its settings
+pub walk-counted : (f : List ℕ) {b : Book} → bookOf f ≡ BookAnswer.Accepted b → counted f 0 (walkOf f) ≡ BookAnswer.Accepted b
+unfolding bookOf
+walk-counted f h =
+    let e1 = lt-skip 65535 (length f) _ _ refused-not h in
+    let e2 = b-take (identified f) _ _ refused-not (e1 .1) in
+    b-take (settingsOk f) _ _ refused-not (e2 .1) .1
 
 -- the place of record n: what is ahead of it are the records from n on
 pub record Cursor (f : List ℕ) (n at : ℕ) : Type 0 where

@@ -5,19 +5,16 @@ use mathlib.Core.List.{List, [], map}
 use lib.ListN.{length, getD}
 use Rattle.prelude.specs.Choice.{ifLt, ifB}
 use Rattle.prelude.specs.Bytes.{stretchBytes}
-use Rattle.prelude.specs.Refusals.{bookTooLong, notABook, badSettings, afterEnd, noSuchNumber, refusal, refusalAt}
+use Rattle.prelude.specs.Refusals.{bookTooLong, notABook, badSettings, noSuchNumber, refusal, refusalAt}
 use Rattle.prelude.specs.declared.refusals.Verdict.{Verdict}
 use Rattle.records.specs.Fields.{recordOf, fixedOf, textLength, noteLength}
 use Rattle.book.specs.Settings.{identified, settingsOf, settingsOk}
 use Rattle.book.specs.Walk.{Walk, more, ended, stopped, typeAt, bodyAt, walkOf, placesIn}
+use Rattle.book.specs.Fillers.{afterEndRecord}
 use Rattle.book.specs.declared.types.Settings.{Settings}
 use Rattle.book.specs.declared.types.BookAnswer.{BookAnswer}
 use Rattle.book.specs.declared.types.Entry.{Entry}
 use Rattle.book.specs.declared.types.RecordAnswer.{RecordAnswer}
-
--- "it is the file's last three bytes": what comes after the end record, which ends at e
-unfoldable pub afterEndRecord : List ℕ → ℕ → Verdict
-afterEndRecord f e = ifLt e (length f) (Verdict.Refused (refusalAt afterEnd e)) Verdict.Fine
 
 unfoldable pub accepted : Settings → ℕ → Verdict → BookAnswer
 accepted s n Verdict.Fine = BookAnswer.Accepted (record { settings = s; records = n })

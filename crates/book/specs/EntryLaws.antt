@@ -13,7 +13,6 @@ use Rattle.book.specs.Walk.{typeAt, lengthAt, bodyAt, nextPlace}
 use Rattle.book.specs.Books.{bookOf, entryAt, placesOf, recordFrom, recordAnswer}
 use Rattle.book.specs.WalkLaws.{RecordAt}
 use Rattle.book.specs.BookLaws.{AcceptedBook, book-accepted, Cursor, cursor-first, Ahead, cursor-ahead}
-use Rattle.book.specs.declared.types.Book.{Book}
 use Rattle.book.specs.declared.types.BookAnswer.{BookAnswer}
 use Rattle.book.specs.declared.types.Entry.{Entry}
 use Rattle.book.specs.declared.types.RecordAnswer.{RecordAnswer}
@@ -41,6 +40,10 @@ pub record Inside (f : List ℕ) (e : Entry) : Type 0 where
   pub text : e .text .place + e .text .length ≡ e .note .place
   pub note : e .note .place + e .note .length ≤ length f
 
+pub text-then-note : (f : List ℕ) (at : ℕ) → entryAt f at .text .place + entryAt f at .text .length ≡ entryAt f at .note .place
+unfolding entryAt
+text-then-note f at = refl
+
 length-body : (f : List ℕ) (at : ℕ) → at + 3 + lengthAt f at ≤ length f → length (bodyAt f at) ≡ lengthAt f at
 length-body f at h = simp (length-take, length-drop) (omega arith)
 
@@ -52,13 +55,16 @@ fixed-most f at r =
     let b : fixedOf (typeAt f at) + textLength (typeAt f at) (bodyAt f at) + noteLength (typeAt f at) (bodyAt f at) ≤ length (bodyAt f at) = j .fits in
     omega arith
 
-pub entry-inside : (f : List ℕ) (at : ℕ) → RecordAt f at → Inside f (entryAt f at)
+pub entry-ends : (f : List ℕ) (at : ℕ) → RecordAt f at → entryAt f at .note .place + entryAt f at .note .length ≤ nextPlace f at
 unfolding entryAt
-entry-inside f at r =
+entry-ends f at r =
     let j : Judged (typeAt f at) (bodyAt f at) = judged (typeAt f at) (bodyAt f at) (r .fine) in
     let l : length (bodyAt f at) ≡ lengthAt f at = length-body f at (r .body) in
     let b : fixedOf (typeAt f at) + textLength (typeAt f at) (bodyAt f at) + noteLength (typeAt f at) (bodyAt f at) ≤ length (bodyAt f at) = j .fits in
-    record { text = refl; note = omega (arith, r .body) }
+    omega arith
+
+pub entry-inside : (f : List ℕ) (at : ℕ) → RecordAt f at → Inside f (entryAt f at)
+entry-inside f at r = record { text = text-then-note f at; note = omega (arith, entry-ends f at r, r .body) }
 
 refused-not : {e : Refusal} {x : Entry} → RecordAnswer.Refused e ≡ RecordAnswer.Record x → ⊥
 refused-not c = let z : _≡_ {A = ℕ} 0 1 = cc in omega arith
@@ -66,21 +72,26 @@ refused-not c = let z : _≡_ {A = ℕ} 0 1 = cc in omega arith
 record-inj : {a b : Entry} → RecordAnswer.Record a ≡ RecordAnswer.Record b → a ≡ b
 record-inj e = cc
 
-from-accepted : (f : List ℕ) (k : ℕ) {e : Entry} (b : Book) → AcceptedBook f b → recordFrom f k (BookAnswer.Accepted b) ≡ RecordAnswer.Record e → Inside f e
-unfolding recordFrom
-from-accepted f k {e} b a h =
-    let p = lt-take k (b .records) _ _ refused-not h in
-    let c : b .records ≡ length (placesOf f) = a .count in
-    let l : k < b .records = p .0 in
-    let r : RecordAt f (getD (placesOf f) k 0) = record-there f (a .long) k (omega arith) in
-    rw (record-inj (p .1)) at (entry-inside f (getD (placesOf f) k 0) r)
+-- which record an answer gives
+pub record Found (f : List ℕ) (k : ℕ) (e : Entry) : Type 0 where
+  pub long : 12 ≤ length f
+  pub number : k < length (placesOf f)
+  pub entry : entryAt f (getD (placesOf f) k 0) ≡ e
 
-from-book : (f : List ℕ) (k : ℕ) {e : Entry} (b : BookAnswer) → bookOf f ≡ b → recordFrom f k b ≡ RecordAnswer.Record e → Inside f e
+found-from : (f : List ℕ) (k : ℕ) {e : Entry} (b : BookAnswer) → bookOf f ≡ b → recordFrom f k b ≡ RecordAnswer.Record e → Found f k e
 unfolding recordFrom
-from-book f k (BookAnswer.Accepted b) q h = from-accepted f k b (book-accepted f q) h
-from-book f k (BookAnswer.Refused r) q h = absurd (refused-not h)
+found-from f k (BookAnswer.Accepted b) q h =
+    let a : AcceptedBook f b = book-accepted f q in
+    let p = lt-take k (b .records) _ _ refused-not h in
+    record { long = a .long; number = omega (arith, p .0, a .count); entry = record-inj (p .1) }
+found-from f k (BookAnswer.Refused r) q h = absurd (refused-not h)
+
+pub record-found : (f : List ℕ) (k : ℕ) {e : Entry} → recordAnswer f k ≡ RecordAnswer.Record e → Found f k e
+unfolding recordAnswer
+record-found f k h = found-from f k (bookOf f) refl h
 
 -- the text and the note of a record at a number lie in the file
 pub record-inside : (f : List ℕ) (k : ℕ) {e : Entry} → recordAnswer f k ≡ RecordAnswer.Record e → Inside f e
-unfolding recordAnswer
-record-inside f k h = from-book f k (bookOf f) refl h
+record-inside f k h =
+    let r = record-found f k h in
+    rw (r .entry) at (entry-inside f (getD (placesOf f) k 0) (record-there f (r .long) k (r .number)))

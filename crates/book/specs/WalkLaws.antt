@@ -1,15 +1,15 @@
 -- Laws of the walk: what a step says, and that the walk goes on by one record at a time without ever running out.
 -- Assumes nothing.
 use Prim.Native.Nat.{ℕ, suc, _+_, _-_, _*_, _<_, _≤_}
-use mathlib.Core.Path.{_≡_, sym, _∙_, ap}
+use mathlib.Core.Path.{_≡_, refl, sym, _∙_, ap, subst}
 use mathlib.Core.List.{List}
 use native.Mathlib.Omega.{arith}
 use lib.ListN.{length}
-use Rattle.prelude.specs.Choice.{is-lt, is-ne, eq-take, eq-skip, lt-skip}
+use Rattle.prelude.specs.Choice.{is-lt, is-ge, is-eq, is-ne, eq-elim, eq-take, eq-skip, lt-skip}
 use Rattle.prelude.specs.Refusals.{cutShort}
 use Rattle.prelude.specs.declared.refusals.Refusal.{Refusal}
 use Rattle.records.specs.Bodies.{judgeBody}
-use Rattle.book.specs.Walk.{typeAt, lengthAt, bodyAt, nextPlace, judgeHead, judged, stepAt, more, ended, stopped, onStep, walkF, walkFrom}
+use Rattle.book.specs.Walk.{typeAt, lengthAt, bodyAt, nextPlace, judgeHead, judged, stepAt, Walk, more, ended, stopped, onStep, walkF, walkFrom}
 use Rattle.book.specs.declared.types.StepAnswer.{StepAnswer}
 
 -- what a head without refusal is
@@ -70,6 +70,37 @@ module _ (f : List ℕ) (at : ℕ) where
       let k = h .known (e2 .0) in
       (record { low = k .0; high = k .1; body = k .2; fine = e3 .0 }, sym (record-inj (e3 .1)))
 
+  -- and back
+  pub record-step : RecordAt f at → stepAt f at ≡ StepAnswer.Record (nextPlace f at)
+  unfolding stepAt judged judgeHead
+  record-step r =
+      let head : judgeHead (length f) at (typeAt f at) (lengthAt f at) ≡ 0 =
+      is-ge (omega (arith, r .body)) _ _ ∙ is-ne (λ c. omega (arith, r .high)) _ _ ∙ is-ge (omega (arith, r .low)) _ _ ∙ is-ge (omega (arith, r .high)) _ _ ∙ is-ge (omega (arith, r .body)) _ _ in
+      is-eq head _ _ ∙ is-ne (λ c. omega (arith, r .high)) _ _ ∙ is-eq (r .fine) _ _
+
+-- what a step to the end record says
+pub record EndAt (f : List ℕ) (at : ℕ) : Type 0 where
+  pub there : at + 3 ≤ length f
+  pub type : typeAt f at ≡ 50
+  pub none : lengthAt f at ≡ 0
+
+module _ (f : List ℕ) (at : ℕ) where
+  pub step-end : stepAt f at ≡ StepAnswer.End → EndAt f at
+  unfolding stepAt judged judgeHead
+  step-end e =
+      let e1 = eq-take (judgeHead (length f) at (typeAt f at) (lengthAt f at)) 0 _ _ no-end e in
+      let e2 = eq-take (typeAt f at) 50 _ _ (λ c. eq-elim (λ x. x ≡ StepAnswer.End → ⊥) _ 0 _ _ (λ _. record-no-end) (λ _. no-end) c) (e1 .1) in
+      let h1 = lt-skip (length f) (at + 3) _ _ (λ c. omega arith) (e1 .0) in
+      let h2 = sym (is-eq (e2 .0) _ _) ∙ h1 .1 in
+      let h3 = eq-take (lengthAt f at) 0 _ _ (λ c. omega arith) h2 in
+      record { there = h1 .0; type = e2 .0; none = h3 .0 }
+
+  pub end-step : EndAt f at → stepAt f at ≡ StepAnswer.End
+  unfolding stepAt judgeHead
+  end-step r =
+      let head : judgeHead (length f) at (typeAt f at) (lengthAt f at) ≡ 0 = is-ge (r .there) _ _ ∙ is-eq (r .type) _ _ ∙ is-eq (r .none) _ _ in
+      is-eq head _ _ ∙ is-eq (r .type) _ _
+
 -- n records lie behind the place
 pub record At (f : List ℕ) (n at : ℕ) : Type 0 where
   pub low : 12 + 3 * n ≤ at
@@ -100,3 +131,20 @@ module _ {f : List ℕ} {n at : ℕ} (a : At f n at) where
 
   pub walk-stop : {r : Refusal} → stepAt f at ≡ StepAnswer.Stopped r → walkFrom f n at ≡ stopped r
   walk-stop e = from-step e
+
+-- the walk by its first step
+abbrev pub Met : List ℕ → ℕ → ℕ → Walk → Type 0
+Met f n at (more p w) = (p ≡ at) × (RecordAt f at × (At f (suc n) (nextPlace f at) × (walkFrom f (suc n) (nextPlace f at) ≡ w)))
+Met f n at (ended e) = EndAt f at × (e ≡ at + 3)
+Met f n at (stopped r) = Unit {0}
+
+pub met : (f : List ℕ) (n at : ℕ) → At f n at → {w : Walk} → walkFrom f n at ≡ w → Met f n at w
+met f n at a e = subst (Met f n at) e (by (stepAt f at) refl)
+  where
+    by : (x : StepAnswer) → stepAt f at ≡ x → Met f n at (walkFrom f n at)
+    by (StepAnswer.Record m) q =
+        let s : RecordAt f at × (m ≡ nextPlace f at) = step-record f at q in
+        let q′ : stepAt f at ≡ StepAnswer.Record (nextPlace f at) = q ∙ ap StepAnswer.Record (s .1) in
+        subst (Met f n at) (sym (walk-record a q′)) (refl, (s .0, (at-next a q′, refl)))
+    by StepAnswer.End q = subst (Met f n at) (sym (walk-end a q)) (step-end f at q, refl)
+    by (StepAnswer.Stopped r) q = subst (Met f n at) (sym (walk-stop a q)) tt

@@ -3,7 +3,8 @@ ghost use mathlib.Core.Path.{_≡_};
 ghost use Prim.Native.Nat.{_≤_};
 ghost use lib.ListN.{length};
 ghost use Rattle.book.specs.Walk.{walkOf};
-ghost use Rattle.book.specs.Books.{afterEndRecord, accepted, counted, bookOf};
+ghost use Rattle.book.specs.Books.{accepted, counted, bookOf};
+use crate::fillers::after_end_record;
 use crate::settings::is_identified;
 use crate::settings::settings_of;
 use crate::settings::settings_ok;
@@ -12,25 +13,11 @@ use crate::types::Book;
 use crate::types::BookAnswer;
 use crate::types::Settings;
 use crate::types::StepAnswer;
-use prelude::refusals::AFTER_END;
 use prelude::refusals::BAD_SETTINGS;
 use prelude::refusals::BOOK_TOO_LONG;
 use prelude::refusals::NOT_A_BOOK;
 use prelude::refusals::Refusal;
 use prelude::refusals::Verdict;
-
-// What comes after the end record, which ends at e.
-fn after_end_record(file: &[u8], e: usize) -> Verdict
-    ensures { λ r. ⌜ r ≡ afterEndRecord (now (file .entry)) e ⌝ }
-{
-    if e < file.len() {
-        return Verdict::Refused(Refusal {
-            number: AFTER_END,
-            place: e,
-        });
-    }
-    Verdict::Fine
-}
 
 fn accepted_with(settings: Settings, records: usize, v: Verdict) -> BookAnswer
     ensures { λ r. ⌜ r ≡ accepted settings records v ⌝ }

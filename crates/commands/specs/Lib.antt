@@ -4,4 +4,7 @@ pub mod Commands
 pub mod Responses
 pub mod ResponseLaws
 pub mod WordLaws
+pub mod SameRecordLaws
+pub mod SameDayLaws
+pub mod SameAnswers
 pub mod Examples

@@ -19,7 +19,8 @@ use Rattle.notes.specs.Notes.{noZero, linesOf, shortLines, noteOk}
 use Rattle.records.specs.Bodies.{lengthsFit, lengthsOk, fieldsOk, textsOk, judgeBody}
 use Rattle.book.specs.Settings.{sameBytes, identified, settingsInRange, settingsOf, flagsOk, settingsOk}
 use Rattle.book.specs.Walk.{judgeHead, judged, stepAt, walkF, walkFrom, walkOf, placesIn}
-use Rattle.book.specs.Books.{afterEndRecord, accepted, counted, bookOf, entryAt, placesOf, entriesOf}
+use Rattle.book.specs.Fillers.{fillersFrom, afterEndRecord}
+use Rattle.book.specs.Books.{accepted, counted, bookOf, entryAt, placesOf, entriesOf}
 use Rattle.book.specs.Examples.{case}
 use Rattle.falls.specs.Falls.{datedFalls, falls}
 use Rattle.falls.specs.Times.{timesOf}
@@ -45,12 +46,12 @@ empty-files = (refl, refl)
 
 -- a room of 192 bytes is just enough; the program's
 pub case-answers : (exportAnswer shows case 4820 7 192 ≡ ExportAnswer.Written 192) × (exportAnswer shows case 4820 7 191 ≡ ExportAnswer.Refused (refusal noRoom)) × (exportAnswer shows case 4820 7 65536 ≡ ExportAnswer.Written 192)
-unfolding exportAnswer exportFrom spanAnswer sized pastLastBlock pastLastBlockFrom spanOk bookOf counted accepted afterEndRecord identified sameBytes settingsOk settingsInRange flagsOk exportFile exportDays daysWith addDay appointmentsFor appointmentOf specialTime settingsFor intervalOf codeOf bit settingsOf pageOf sort insert keep numbered numberedFrom entriesOf entryAt placesOf placesIn walkOf walkFrom walkF stepAt judgeHead judged judgeBody lengthsOk lengthsFit fieldsOk textsOk datedOf recordOf fixedOf datedOk timesOk real monthLength leap noZero noteOk linesOf shortLines timesOf falls datedFalls factsOf dateOf nextDate weekdayOf nextWeekday fileOf headBytes table descriptorBytes alarms filled blocks blockBytes appointmentsBytes appointmentBytes le16 ifLt ifEq ifB
+unfolding exportAnswer exportFrom spanAnswer sized pastLastBlock pastLastBlockFrom spanOk bookOf counted accepted fillersFrom afterEndRecord identified sameBytes settingsOk settingsInRange flagsOk exportFile exportDays daysWith addDay appointmentsFor appointmentOf specialTime settingsFor intervalOf codeOf bit settingsOf pageOf sort insert keep numbered numberedFrom entriesOf entryAt placesOf placesIn walkOf walkFrom walkF stepAt judgeHead judged judgeBody lengthsOk lengthsFit fieldsOk textsOk datedOf recordOf fixedOf datedOk timesOk real monthLength leap noZero noteOk linesOf shortLines timesOf falls datedFalls factsOf dateOf nextDate weekdayOf nextWeekday fileOf headBytes table descriptorBytes alarms filled blocks blockBytes appointmentsBytes appointmentBytes le16 ifLt ifEq ifB
 case-answers = (refl, refl, refl)
 
 -- "bytes past the written length are as before"
 pub case-left : exportLeaves shows case 4820 7 (zeros 192 ++ (1 ∷ (2 ∷ []))) ≡ calendar.case ++ (1 ∷ (2 ∷ []))
-unfolding exportLeaves leaves splice exportAnswer exportFrom spanAnswer sized pastLastBlock pastLastBlockFrom spanOk bookOf counted accepted afterEndRecord identified sameBytes settingsOk settingsInRange flagsOk exportFile exportDays daysWith addDay appointmentsFor appointmentOf specialTime settingsFor intervalOf codeOf bit settingsOf pageOf sort insert keep numbered numberedFrom entriesOf entryAt placesOf placesIn walkOf walkFrom walkF stepAt judgeHead judged judgeBody lengthsOk lengthsFit fieldsOk textsOk datedOf recordOf fixedOf datedOk timesOk real monthLength leap noZero noteOk linesOf shortLines timesOf falls datedFalls factsOf dateOf nextDate weekdayOf nextWeekday fileOf headBytes table descriptorBytes alarms filled blocks blockBytes appointmentsBytes appointmentBytes le16 ifLt ifEq ifB
+unfolding exportLeaves leaves splice exportAnswer exportFrom spanAnswer sized pastLastBlock pastLastBlockFrom spanOk bookOf counted accepted fillersFrom afterEndRecord identified sameBytes settingsOk settingsInRange flagsOk exportFile exportDays daysWith addDay appointmentsFor appointmentOf specialTime settingsFor intervalOf codeOf bit settingsOf pageOf sort insert keep numbered numberedFrom entriesOf entryAt placesOf placesIn walkOf walkFrom walkF stepAt judgeHead judged judgeBody lengthsOk lengthsFit fieldsOk textsOk datedOf recordOf fixedOf datedOk timesOk real monthLength leap noZero noteOk linesOf shortLines timesOf falls datedFalls factsOf dateOf nextDate weekdayOf nextWeekday fileOf headBytes table descriptorBytes alarms filled blocks blockBytes appointmentsBytes appointmentBytes le16 ifLt ifEq ifB
 case-left = refl
 
 -- 0, 366 and 367 days; the first and the last day

@@ -38,7 +38,7 @@ badField = 7
 abbrev pub badText : ℕ
 badText = 8
 
--- 9: bytes after the end record
+-- 9: bytes after the end record, more than 127 or not all 1Ah (R-1)
 abbrev pub afterEnd : ℕ
 afterEnd = 9
 

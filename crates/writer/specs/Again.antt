@@ -8,6 +8,7 @@ use lib.ListN.{length, getD}
 use Rattle.records.specs.Fields.{recordOf, fixedOf, textLength, noteLength, textOf, noteOf}
 use Rattle.records.specs.Encoding.{plainState}
 use Rattle.book.specs.Walk.{typeAt, lengthAt, bodyAt}
+use Rattle.book.specs.Fillers.{fillersOf}
 use Rattle.book.specs.Books.{bookOf, placesOf, recordAnswer, textIn, noteIn}
 use Rattle.book.specs.declared.types.Settings.{Settings}
 use Rattle.book.specs.declared.types.BookAnswer.{BookAnswer}
@@ -39,8 +40,10 @@ Each P [] = Unit {0}
 Each P (at ∷ places) = P at × Each P places
 
 -- a book without padding and unnamed bits
-abbrev pub Plain : List ℕ → Type 0
-Plain f = Each (PlainAt f) (placesOf f)
+pub record Plain (f : List ℕ) : Type 0 where
+  pub each : Each (PlainAt f) (placesOf f)
+  -- bytes after the end record: "the same-bytes promise is for books with none" (R-1)
+  pub no-fillers : fillersOf f ≡ 0
 
 -- what is read at a number of a file is this item
 pub record Reads (f : List ℕ) (k : ℕ) (i : Item) : Type 0 where
@@ -54,3 +57,5 @@ pub record Reads (f : List ℕ) (k : ℕ) (i : Item) : Type 0 where
 pub record ReadsAs (f : List ℕ) (s : Settings) (is : List Item) : Type 0 where
   pub book : bookOf f ≡ BookAnswer.Accepted (record { settings = s; records = length is })
   pub items : (k : ℕ) (x : Item) → k < length is → Reads f k (getD is k x)
+  -- bytes after the end record: "Writing adds none" (R-1)
+  pub none-added : fillersOf f ≡ 0

@@ -1,7 +1,6 @@
 -- Document 01, "One whole case": the book of 33 bytes is plain, and is written again as it was.
 -- Assumes nothing.
 use mathlib.Core.Path.{_≡_, refl}
-use mathlib.Core.Bool.{true, false}
 use native.Mathlib.Omega.{arith}
 use lib.ListN.{take, drop}
 use Rattle.prelude.specs.Choice.{ifLt, ifEq, ifB}
@@ -13,16 +12,16 @@ use Rattle.records.specs.Bodies.{lengthsFit, lengthsOk, fieldsOk, textsOk, judg
 use Rattle.records.specs.Encoding.{plainState}
 use Rattle.days.specs.Dates.{leap, monthLength, real}
 use Rattle.book.specs.Walk.{judgeHead, judged, stepAt, walkF, walkFrom, walkOf, placesIn}
+use Rattle.book.specs.Fillers.{endIn, fillersOf}
 use Rattle.book.specs.Books.{placesOf}
-use Rattle.book.specs.Examples.{case, case-accepted}
+use Rattle.book.specs.Examples.{case, caseBook, case-accepted}
 use Rattle.writer.specs.Runs.{bookBytes}
 use Rattle.writer.specs.Again.{itemsOf, Plain}
 use Rattle.writer.specs.SameLaws.{same-bytes}
 
 pub case-plain : Plain case
-unfolding placesOf placesIn plainState walkOf walkFrom walkF stepAt judgeHead judged judgeBody lengthsOk lengthsFit fieldsOk textsOk datedOf fixedOf datedOk timesOk real monthLength leap noZero noteOk linesOf shortLines ifLt ifEq ifB
-case-plain = (record { tight = refl; named = refl }, tt)
+unfolding fillersOf endIn placesOf placesIn plainState walkOf walkFrom walkF stepAt judgeHead judged judgeBody lengthsOk lengthsFit fieldsOk textsOk datedOf fixedOf datedOk timesOk real monthLength leap noZero noteOk linesOf shortLines ifLt ifEq ifB
+case-plain = record { each = (record { tight = refl; named = refl }, tt); no-fillers = refl }
 
-pub case-again :
-    bookBytes (record { start = record { 0 = 480 }; granularity = 30; alarm = true; lead = 5; «carry_forward» = false }) (itemsOf case) ≡ case
+pub case-again : bookBytes (caseBook .settings) (itemsOf case) ≡ case
 case-again = same-bytes case (bytes-append (take 16 case) (drop 16 case) (omega arith) (omega arith)) case-accepted case-plain

@@ -7,7 +7,7 @@ use native.Mathlib.Omega.{arith}
 use native.Mathlib.Nat.{add-zero, add-assoc}
 use lib.ListN.{length, drop, length-append, length-drop}
 use lib.Seq.{drop-drop, drop-append-le, take-append-seam, drop-append-seam}
-use Rattle.prelude.specs.Choice.{ifEq, is-eq, is-ne, is-ge}
+use Rattle.prelude.specs.Choice.{ifEq}
 use Rattle.prelude.specs.Bytes.{byte, word, part, le16, word-le16, byte-drop, word-drop}
 use Rattle.records.specs.Fields.{fixedOf}
 use Rattle.records.specs.declared.types.Record.{Record}
@@ -15,7 +15,8 @@ use Rattle.records.specs.Bodies.{judgeBody}
 use Rattle.records.specs.Encoding.{typeOf, bodyBytes, encode}
 use Rattle.records.specs.EncodingLaws.{type-range}
 use Rattle.records.specs.BodyLaws.{note-short, length-body, text-length-encoded, note-length-encoded, after-fixed, after-text, record-encoded, judge-encoded}
-use Rattle.book.specs.Walk.{typeAt, lengthAt, bodyAt, nextPlace, judgeHead, judged, stepAt}
+use Rattle.book.specs.Walk.{typeAt, lengthAt, bodyAt, nextPlace, stepAt}
+use Rattle.book.specs.WalkLaws.{record-step, end-step}
 use Rattle.book.specs.Books.{entryAt}
 use Rattle.book.specs.declared.types.StepAnswer.{StepAnswer}
 use Rattle.book.specs.declared.types.Entry.{Entry}
@@ -83,15 +84,6 @@ module _ (f : List ℕ) (at : ℕ) (i : Item) (rest : List ℕ) (d : drop at f �
     fine : judgeBody (typeAt f at) (bodyAt f at) ≡ 0
     fine = rw (starts, whole) (judge-encoded (i .kind) (i .text) (i .note) (o .ranged) (o .short) (o .clean) (o .ruled))
 
-    head : judgeHead (length f) at (typeAt f at) (lengthAt f at) ≡ 0
-    unfolding judgeHead
-    head =
-        let t = type-range (i .kind) in
-        let s = starts in
-        let l = long in
-        let h = inside in
-        is-ge (omega arith) _ _ ∙ is-ne (λ c. omega arith) _ _ ∙ is-ge (omega arith) _ _ ∙ is-ge (omega arith) _ _ ∙ is-ge (omega arith) _ _
-
     next-place : nextPlace f at ≡ at + length (itemBytes i)
     next-place =
         let l = long in
@@ -99,11 +91,12 @@ module _ (f : List ℕ) (at : ℕ) (i : Item) (rest : List ℕ) (d : drop at f �
         omega arith
 
     pub item-step : stepAt f at ≡ StepAnswer.Record (at + length (itemBytes i))
-    unfolding stepAt judged
     item-step =
         let t = type-range (i .kind) in
         let s = starts in
-        is-eq head _ _ ∙ is-ne (λ c. omega arith) _ _ ∙ is-eq fine _ _ ∙ ap StepAnswer.Record next-place
+        let l = long in
+        let h = inside in
+        record-step f at (record { low = omega arith; high = omega arith; body = omega arith; fine = fine }) ∙ ap StepAnswer.Record next-place
 
     further : (n : ℕ) → n ≤ length (itemBody i) → drop (at + 3 + n) f ≡ drop n (itemBody i) ++ rest
     further n h = sym (drop-drop n (at + 3) f) ∙ ap (drop n) behind ∙ drop-append-le n (itemBody i) rest h
@@ -135,11 +128,9 @@ module _ (f : List ℕ) (at : ℕ) (d : drop at f ≡ endBytes) where
       let n = length-drop at f in
       omega arith
 
-  pub end-step : stepAt f at ≡ StepAnswer.End
-  unfolding stepAt judgeHead
-  end-step =
+  pub end-here : stepAt f at ≡ StepAnswer.End
+  end-here =
       let t : byte f at ≡ 50 = ap (byte f) (sym (add-zero at)) ∙ sym (byte-drop f at 0) ∙ ap (λ l. byte l 0) d in
       let l : word f (at + 1) ≡ 0 = sym (word-drop f at 1) ∙ ap (λ l. word l 1) d in
       let e = end-last in
-      let h : judgeHead (length f) at (typeAt f at) (lengthAt f at) ≡ 0 = is-ge (omega arith) _ _ ∙ is-eq t _ _ ∙ is-eq l _ _ in
-      is-eq h _ _ ∙ is-eq t _ _
+      end-step f at (record { there = omega arith; type = t; none = l })

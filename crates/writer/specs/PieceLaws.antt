@@ -8,14 +8,13 @@ use native.Mathlib.Omega.{arith}
 use lib.Dec.{eqb}
 use lib.ListN.{length, take, drop, take-append-drop, length-drop, drop-of-length-le}
 use lib.Seq.{drop-drop, length-take-le}
-use Rattle.prelude.specs.Choice.{ifB, is-eq, eq-elim, lt-skip, eq-take, b-take}
+use Rattle.prelude.specs.Choice.{ifB, lt-skip, eq-take, b-take}
 use Rattle.prelude.specs.Bytes.{bytesFrom, drop-places, bit, byte, word, le16, Bytes, le16-join, bytes-at}
 use Rattle.records.specs.Encoding.{encode}
 use Rattle.records.specs.AgainLaws.{encode-again}
 use Rattle.book.specs.Settings.{sameBytes, identified, settingsInRange, settingsOf, flagsOk, settingsOk}
-use Rattle.book.specs.Walk.{typeAt, lengthAt, bodyAt, nextPlace, judgeHead, judged, stepAt}
-use Rattle.book.specs.WalkLaws.{RecordAt, no-end, record-no-end}
-use Rattle.book.specs.declared.types.StepAnswer.{StepAnswer}
+use Rattle.book.specs.Walk.{typeAt, lengthAt, bodyAt, nextPlace}
+use Rattle.book.specs.WalkLaws.{RecordAt, EndAt}
 use Rattle.writer.specs.Writing.{openBytes, endBytes}
 use Rattle.writer.specs.Again.{itemAt, PlainAt}
 
@@ -90,24 +89,8 @@ module _ (f : List ℕ) (at : ℕ) (b : Bytes f) (r : RecordAt f at) where
       rw (e, body-long, word-again f b (at + 1), body-next) (sym (drop-places f at 3 (omega arith)))
 
 -- the end record
-record EndAt (f : List ℕ) (at : ℕ) : Type 0 where
-  there : at + 3 ≤ length f
-  type : typeAt f at ≡ 50
-  none : lengthAt f at ≡ 0
-
-end-at : (f : List ℕ) (at : ℕ) → stepAt f at ≡ StepAnswer.End → EndAt f at
-unfolding stepAt judged judgeHead
-end-at f at e =
-    let e1 = eq-take (judgeHead (length f) at (typeAt f at) (lengthAt f at)) 0 _ _ no-end e in
-    let e2 = eq-take (typeAt f at) 50 _ _ (λ c. eq-elim (λ x. x ≡ StepAnswer.End → ⊥) _ 0 _ _ (λ _. record-no-end) (λ _. no-end) c) (e1 .1) in
-    let h1 = lt-skip (length f) (at + 3) _ _ (λ c. omega arith) (e1 .0) in
-    let h2 = sym (is-eq (e2 .0) _ _) ∙ h1 .1 in
-    let h3 = eq-take (lengthAt f at) 0 _ _ (λ c. omega arith) h2 in
-    record { there = h1 .0; type = e2 .0; none = h3 .0 }
-
-pub end-again : (f : List ℕ) (at : ℕ) → stepAt f at ≡ StepAnswer.End → length f ≤ at + 3 → endBytes ≡ drop at f
-end-again f at e h =
-    let v = end-at f at e in
+pub end-again : (f : List ℕ) (at : ℕ) → EndAt f at → length f ≤ at + 3 → endBytes ≡ drop at f
+end-again f at v h =
     let low : byte f (at + 1) ≡ 0 = omega (arith, v .none) in
     let high : byte f (at + 1 + 1) ≡ 0 = omega (arith, v .none) in
     sym (drop-places f at 3 (v .there) ∙ rw (v .type, low, high, drop-of-length-le f h))

@@ -13,15 +13,16 @@ use Rattle.prelude.specs.Bytes.{bit, byte, le16, word-le16}
 use Rattle.records.specs.BodyLaws.{state-byte}
 use Rattle.book.specs.Settings.{sameBytes, identified, settingsInRange, settingsOf, flagsOk}
 use Rattle.book.specs.Walk.{walkFrom, placesIn, ended}
-use Rattle.book.specs.Books.{afterEndRecord, accepted, counted, entryAt}
+use Rattle.book.specs.Fillers.{endIn}
+use Rattle.book.specs.FillerLaws.{nothing-after}
+use Rattle.book.specs.Books.{accepted, counted, entryAt}
 use Rattle.book.specs.WalkLaws.{At, at-next, walk-record, walk-end}
 use Rattle.book.specs.declared.types.Settings.{Settings}
 use Rattle.book.specs.declared.types.BookAnswer.{BookAnswer}
-use Rattle.prelude.specs.declared.refusals.Verdict.{Verdict}
 use Rattle.writer.specs.Writing.{openBytes}
 use Rattle.writer.specs.Runs.{Item, recordBytes, Items, restBytes, itemBytes}
 use Rattle.writer.specs.RunLaws.{rest-item}
-use Rattle.writer.specs.ItemLaws.{Entered, item-next, item-step, item-entry, end-last, end-step}
+use Rattle.writer.specs.ItemLaws.{Entered, item-next, item-step, item-entry, end-last, end-here}
 
 -- The opening bytes.
 record InRange (s : Settings) : Type 0 where
@@ -67,19 +68,19 @@ module _ (s : Settings) (rest : List ℕ) where
 pub record Walked (f : List ℕ) (n at : ℕ) (is : List Item) : Type 0 where
   pub count : counted f n (walkFrom f n at) ≡ BookAnswer.Accepted (record { settings = settingsOf f; records = n + length is })
   pub entries : (k : ℕ) (x : Item) → k < length is → Entered f (entryAt f (getD (placesIn (walkFrom f n at)) k 0)) (getD is k x)
+  pub end : endIn (walkFrom f n at) ≡ length f
 
 at-end : (f : List ℕ) (n at : ℕ) → at ≡ length f → counted f n (ended at) ≡ BookAnswer.Accepted (record { settings = settingsOf f; records = n + 0 })
-unfolding counted accepted afterEndRecord
-at-end f n at h =
-    let e : afterEndRecord f at ≡ Verdict.Fine = is-ge (omega arith) _ _ in
-    rw (add-zero n) (ap (accepted (settingsOf f) n) e)
+unfolding counted accepted
+at-end f n at h = rw (add-zero n) (ap (accepted (settingsOf f) n) (nothing-after f at (omega arith)))
 
 pub walked : (f : List ℕ) (is : List Item) (n at : ℕ) → Items is → At f n at → drop at f ≡ restBytes is → Walked f n at is
-unfolding recordBytes counted placesIn
+unfolding recordBytes counted placesIn endIn
 walked f [] n at o a d =
     record {
-      count = rw (walk-end a (end-step f at d)) (at-end f n (at + 3) (end-last f at d));
+      count = rw (walk-end a (end-here f at d)) (at-end f n (at + 3) (end-last f at d));
       entries = λ k x h. absurd (omega arith);
+      end = rw (walk-end a (end-here f at d)) (end-last f at d);
     }
 walked f (i ∷ is) n at o a d =
     let d′ : drop at f ≡ itemBytes i ++ restBytes is = d ∙ rest-item i is in
@@ -91,6 +92,7 @@ walked f (i ∷ is) n at o a d =
     record {
       count = rw w (g .count ∙ ap (λ k. BookAnswer.Accepted (record { settings = settingsOf f; records = k })) m);
       entries = rw w (on (placesIn (walkFrom f (suc n) (at + length (itemBytes i)))) (item-entry f at i (restBytes is) d′ (o .0)) (g .entries));
+      end = rw w (g .end);
     }
   where
     on :

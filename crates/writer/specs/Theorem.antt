@@ -12,6 +12,7 @@ use Rattle.prelude.specs.Bytes.{Bytes, le16}
 use Rattle.prelude.specs.Splice.{splice}
 use Rattle.book.specs.Settings.{identified, settingsInRange, settingsOf, settingsOk}
 use Rattle.book.specs.Walk.{walkOf}
+use Rattle.book.specs.Fillers.{fillersOf}
 use Rattle.book.specs.Books.{bookOf, entryAt, placesOf, recordFrom, recordAnswer, textIn, noteIn}
 use Rattle.book.specs.WalkLaws.{at-first}
 use Rattle.book.specs.BookLaws.{AcceptedBook, book-accepted}
@@ -73,11 +74,12 @@ module _ (s : Settings) (is : List Item) (h : settingsInRange s ≡ true) (o : I
 
   -- The bytes of a book are read as its settings and items.
   pub book-reads : ReadsAs (bookBytes s is) s is
-  unfolding placesOf walkOf
+  unfolding placesOf walkOf fillersOf
   book-reads =
       record {
         book = book-read;
         items = λ k x m. reads (bookBytes s is) s (length is) k (getD is k x) book-read m (walked-book .entries k x m);
+        none-added = omega (arith, walked-book .end);
       }
 
 -- Writing and reading: whatever was opened, added and closed without a refusal is read back from the bytes that the state counts as used.
@@ -88,7 +90,7 @@ writing-reads s is b w b′ e =
     let r : Written s is b w b′ = writing-done s is b w b′ e in
     rw (r .book) (book-reads s is (r .settings) (r .items) (r .size))
 
--- a book without padding and unnamed bits, read and written again, has the same bytes, in any buffer of at least its length
+-- a book without padding, unnamed bits and fillers, read and written again, has the same bytes, in any buffer of at least its length
 pub writing-same :
     (f : List ℕ) {k : Book} (b : List ℕ) → Bytes f → bookOf f ≡ BookAnswer.Accepted k → Plain f → length f ≤ length b
     → writing (k .settings) (itemsOf f) b ≡ done (closedAt (length f)) (splice b 0 f)

@@ -1,7 +1,9 @@
 //! Faults, each with the number that it is refused with.
 
-use super::drafts::{full_note, letters, low_first, places, text_at, Draft, Field, File};
+use super::drafts::{full_note, letters, low_first, places, text_at, Draft, Field};
 use super::drafts::{Field::*, EDGES, SETTINGS};
+use super::file::File;
+use super::fillers;
 use crate::book::LONGEST;
 use crate::rng::Rng;
 
@@ -113,6 +115,7 @@ pub const DAMAGES: &[Damage] = &[
         file.bytes.resize(rng.within(LONGEST + 1..=3 * LONGEST), 50);
         0
     }),
+    ("fillers up to 65,536", 1, fillers::past_the_greatest_size),
     ("identification", 2, |file, rng| {
         file.bytes[rng.within(0..=4)] ^= rng.within(1..=255) as u8;
         0
@@ -146,18 +149,23 @@ pub const DAMAGES: &[Damage] = &[
         file.bytes.truncate(rng.within(place..=place + 2));
         place
     }),
-    ("last record over the end record", 4, |file, _| {
-        lengthen_last_record(file, 3);
-        file.bytes.len()
+    ("one or two fillers, no end record", 4, |file, rng| fillers::no_end_record(file, rng.within(1..=2))),
+    ("last record over the end record", 4, |file, rng| {
+        fillers::end_record_in_the_last(file, rng.within(0..=2))
     }),
     ("last record over a part of the end record", 4, |file, rng| {
         let more = rng.within(1..=2);
+        file.fill(0);
         lengthen_last_record(file, more);
         file.end() + more
     }),
     ("last record one past the file", 4, |file, _| {
-        lengthen_last_record(file, 4);
+        lengthen_last_record(file, file.bytes.len() - file.end() + 1);
         file.last_record()
+    }),
+    ("fillers, no end record", 5, |file, rng| fillers::no_end_record(file, rng.within(3..=200))),
+    ("last record over the end record, fillers", 5, |file, rng| {
+        fillers::end_record_in_the_last(file, rng.within(3..=200))
     }),
     ("end record with a length", 5, |file, rng| {
         let length = low_first(rng.pick(&[1, 2, 256, 32_768, 65_535]));
@@ -175,22 +183,17 @@ pub const DAMAGES: &[Damage] = &[
         file.bytes[place] = rng.within(1..=6) as u8;
         place
     }),
-    ("one byte after the end", 9, |file, rng| {
-        file.bytes.push(rng.u8());
-        file.bytes.len() - 1
-    }),
-    ("another end record", 9, |file, _| {
-        file.bytes.extend([50, 0, 0]);
-        file.bytes.len() - 3
-    }),
-    ("bytes up to 65,535", 9, |file, _| {
-        let place = file.bytes.len();
-        file.bytes.resize(LONGEST, 26);
-        place
-    }),
+    ("other bytes after the end", 9, fillers::other_bytes),
+    ("a wrong byte among fillers", 9, fillers::one_wrong),
+    ("wrong bytes among fillers", 9, fillers::several_wrong),
+    ("another end record", 9, fillers::another_end_record),
+    ("128 fillers", 9, fillers::one_too_many),
+    ("more fillers", 9, fillers::too_many),
+    ("more fillers, one wrong", 9, fillers::too_many_and_one_wrong),
+    ("fillers up to 65,535", 9, fillers::to_the_greatest_size),
 ];
 
-fn lengthen_last_record(file: &mut File, by: usize) {
+pub fn lengthen_last_record(file: &mut File, by: usize) {
     let at = file.last_record();
     let length = file.end() - at - 3;
     file.put(at + 1, &low_first(length + by));

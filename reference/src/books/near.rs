@@ -1,7 +1,8 @@
 //! Records that fall on a given day, or nearly: rules that fit it, spans that begin or end at it, dates
 //! beside it, and so few minutes that many are equal.
 
-use super::drafts::{Draft, Field, File};
+use super::drafts::{Draft, Field};
+use super::file::File;
 use crate::civil;
 use crate::days::{day_facts, Date, LAST_DAY};
 use crate::rng::Rng;

@@ -1,6 +1,7 @@
 //! Spans of days, and books to be exported.
 
-use super::drafts::{Draft, Field, File};
+use super::drafts::{Draft, Field};
+use super::file::File;
 use super::near::{edge_day, near};
 use super::small;
 use crate::civil;
@@ -32,11 +33,12 @@ pub fn book_of_span(span: Span, records: usize, rng: &mut Rng) -> File {
         near(day, rng.within(1..=6) as u8, rng)
     };
     let records: Vec<Draft> = (0..records).map(|_| record()).collect();
-    let mut file = File::random(&records, rng);
+    let mut file = File::unfilled(&records, rng);
     // Granularities that have a code of their own, and those beside them.
     if rng.one_in(2) {
         file.put(7, &[rng.pick(&[14, 15, 16, 29, 30, 31, 45, 59, 60, 61]), 0]);
     }
+    file.fill_often(rng);
     file
 }
 

@@ -1,7 +1,7 @@
 //! Hostile files: random bytes, right files, and right files damaged in every way.
 
 use crate::book;
-use crate::books::{self, book_near, book_of_span, crowded, edge_day, Span};
+use crate::books::{self, book_near, book_of_span, crowded, edge_day, Span, FILLER};
 use crate::calendar;
 use crate::calendars;
 use crate::export::export;
@@ -9,14 +9,16 @@ use crate::rng::Rng;
 
 /// Words that stand at some edge, and bytes of heads and records.
 const WORDS: &[u16] =
-    &[0, 1, 2, 5, 50, 255, 256, 1_439, 1_440, 32_767, 32_768, 43_829, 43_830, 65_534, 65_535, 0xA2B5];
+    &[0, 1, 2, 5, 50, 255, 256, 1_439, 1_440, 32_767, 32_768, 43_829, 43_830, 65_534, 65_535, 0xA2B5, 0x1A1A];
 
 /// A book, or what once was one.
 pub fn book(rng: &mut Rng) -> Vec<u8> {
     let seed = Rng::new(rng.u64());
     if rng.one_in(400) {
         // Its export may be too long for any buffer.
-        return crowded(rng.within(1_200..=1_400), 0).bytes;
+        let mut file = crowded(rng.within(1_200..=1_400), 0);
+        file.fill_often(rng);
+        return file.bytes;
     }
     match rng.below(16) {
         0 => bytes(book::LONGEST, rng),
@@ -88,7 +90,7 @@ fn damaged(mut file: Vec<u8>, other: &[u8], rng: &mut Rng) -> Vec<u8> {
 fn damage(file: &mut Vec<u8>, other: &[u8], rng: &mut Rng) {
     let at = rng.within(0..=file.len());
     let end = (at + rng.pick(&[1, 2, 3, 12, 64, 200])).min(file.len());
-    match rng.below(10) {
+    match rng.below(11) {
         0 => file.truncate(at),
         1 => {
             let more = rng.within(1..=64);
@@ -104,10 +106,14 @@ fn damage(file: &mut Vec<u8>, other: &[u8], rng: &mut Rng) {
             let to = (from + end - at).min(other.len());
             file.splice(at..end, other[from..to].iter().copied());
         }
-        5 => file[at..end].fill(rng.pick(&[0, 1, 255])),
+        5 => file[at..end].fill(rng.pick(&[0, 1, FILLER, 255])),
         6 if end - at >= 2 => file[at..at + 2].copy_from_slice(&rng.pick(WORDS).to_le_bytes()),
         7 if at < end => file[at] ^= 1 << rng.below(8),
         8 if at < end => file[at] = rng.u8(),
+        9 => {
+            let any = rng.within(1..=130);
+            file.extend(vec![FILLER; rng.pick(&[1, 2, 126, 127, 128, any])]);
+        }
         _ if at < end => file[at] = file[at].wrapping_add(rng.pick(&[1, 255])),
         _ => (),
     }

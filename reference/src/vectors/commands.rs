@@ -126,3 +126,14 @@ pub const EXPORT_REFUSALS: &[&[&[u8]]] = &[
 /// To how many bytes the book is cut, and what is then written, whatever the command line is.
 pub const CUT_BOOKS: &[(usize, &[u8])] =
     &[(0, b"2 0\n"), (4, b"2 0\n"), (5, b"3 5\n"), (11, b"3 5\n"), (12, b"4 12\n"), (32, b"4 30\n")];
+
+/// What comes after the book, and what is then written, whatever the command line is.
+pub const FILLED_BOOKS: &[(&[u8], &[u8])] = &[
+    (&[0x1A; 128], b"9 33\n"),
+    (&[0x1A; 65_502], b"9 33\n"),
+    (&[0x1A; 65_503], b"1 0\n"),
+    (&[0x1A, 0x00], b"9 34\n"),
+    (&[0x1A, 0x0A], b"9 34\n"),
+    (&[0x1B], b"9 33\n"),
+    (&[0x1A, 0x1A, 0x1A, 0x32, 0x00, 0x00], b"9 36\n"),
+];

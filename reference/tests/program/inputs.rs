@@ -1,9 +1,12 @@
 //! Books on standard input: of full size and more, in pieces, or none.
 
-use super::{compare, program, run_slowly, said, words};
+use super::{compare, program, run, run_slowly, said, words};
 use reference::books::{small, Field, File};
 use reference::program::output;
 use reference::rng::Rng;
+use reference::vectors::calendars::whole_case;
+use reference::vectors::commands::{EXPORTS, FILLED_BOOKS, PAGES, REFUSALS};
+use reference::vectors::fillers::{filled, fillers};
 use reference::vectors::{every_kind, WHOLE_CASE};
 use std::ffi::OsStr;
 use std::process::Command;
@@ -36,6 +39,41 @@ fn long_books() {
     assert_eq!(compare(&words([b"4822"]), &vec![0; 3_000_000]), b"1 0\n");
 }
 
+/// Filled up to a block of 128 bytes, as it comes over a modem.
+#[test]
+fn filled_books() {
+    let line = |command: &[&[u8]]| -> Vec<Vec<u8>> { command.iter().map(|word| word.to_vec()).collect() };
+    for (command, expected) in PAGES {
+        assert_eq!(run(&line(command), &filled(95)), *expected, "{command:?}");
+    }
+    for command in EXPORTS {
+        assert_eq!(run(&line(command), &filled(95)), whole_case(), "{command:?}");
+    }
+    for (after, expected) in FILLED_BOOKS {
+        let book = [&WHOLE_CASE[..], after].concat();
+        for command in [PAGES[0].0, EXPORTS[0], REFUSALS[0].0] {
+            assert_eq!(run(&line(command), &book), *expected, "{} bytes after the end", after.len());
+        }
+    }
+}
+
+/// Its fillers count.
+#[test]
+fn the_longest_filled_books() {
+    let mut rng = Rng::for_test("the_longest_filled_books");
+    for count in [1, 126, 127] {
+        let book = full_book(65_535 - count, &mut rng);
+        let page = compare(&words([b"4822"]), &book);
+        assert!(page.len() > 30_000);
+        let file = [book, fillers(count)].concat();
+        assert!(compare(&words([b"4822"]), &file) == page);
+        for more in [1, 2, 128, 100_000] {
+            let input = [&file[..], &fillers(more)].concat();
+            assert_eq!(compare(&words([b"4822"]), &input), b"1 0\n", "{count} and {more}");
+        }
+    }
+}
+
 /// The same, however few bytes come at a time.
 #[test]
 fn slow_books() {
@@ -44,6 +82,8 @@ fn slow_books() {
     let command = words([b"4822"]);
     for (file, lengths) in [
         (WHOLE_CASE.to_vec(), &[1, 2, 5, 32][..]),
+        (filled(95), &[1, 33, 127]),
+        ([every_kind(), fillers(73)].concat(), &[128]),
         (every_kind(), &[1, 7, 182]),
         (full.clone(), &[100, 4_095, 4_096, 4_097, 65_534]),
         ([full, vec![50]].concat(), &[1_000, 65_535, 65_536]),

@@ -1,13 +1,15 @@
-//! Reading books: the case of 33 bytes, and books of 65,535.
+//! Reading books: the case of 33 bytes, books of 65,535, and such with 127 fillers.
 
 use super::{again, hidden, kept, row, Cells, Row};
 use reference::book as plain;
 use reference::books::{long, small, Draft, File};
 use reference::ffi::book as proved;
 use reference::rng::Rng;
+use reference::vectors::fillers::filled;
 use reference::vectors::{every_kind, WHOLE_CASE};
 
 const CALLS: usize = 20;
+const FILLERS: usize = 127;
 
 type Book = fn() -> &'static [u8];
 
@@ -27,6 +29,18 @@ fn with_a_note() -> &'static [u8] {
 fn full_of_small() -> &'static [u8] {
     let mut rng = Rng::new(1);
     kept(File::full(plain::LONGEST, || small(1, &mut rng)).bytes)
+}
+
+fn filled_case() -> &'static [u8] {
+    kept(filled(FILLERS))
+}
+
+/// Of 65,535 bytes with its fillers: dated records with short texts.
+fn full_and_filled() -> &'static [u8] {
+    let mut rng = Rng::new(1);
+    let mut file = File::full(plain::LONGEST - FILLERS, || small(1, &mut rng));
+    file.fill(FILLERS);
+    kept(file.bytes)
 }
 
 /// Of 65,535 bytes: 135 dated records with notes of 440 bytes.
@@ -102,6 +116,8 @@ pub fn rows() -> Vec<Row> {
         reading("full, 135 long records", full_of_long, false),
         reading("full, any texts and notes", full_of_any, false),
         reading("full, empty and full lines", full_of_turns, false),
+        reading("the case, 127 fillers", filled_case, false),
+        reading("full and filled, small ones", full_and_filled, true),
         one_record("of the case", case),
         one_record("last of 3,747 small ones", full_of_small),
         one_record("last of 135 long ones", full_of_long),

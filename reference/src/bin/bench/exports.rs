@@ -47,7 +47,9 @@ fn case() -> &'static [u8] {
 
 /// 200 records of all kinds, with notes and padding, near to days of the span.
 fn typical() -> &'static [u8] {
-    kept(book_of_span(SPAN, 200, &mut Rng::new(1)).bytes)
+    let mut file = book_of_span(SPAN, 200, &mut Rng::new(1));
+    file.fill(0);
+    kept(file.bytes)
 }
 
 /// Of 65,535 bytes: small records of one kind, near to days of the span.

@@ -23,7 +23,9 @@ type Asked = (&'static [u8], usize, u16);
 
 /// Twelve records of any kinds, most of which fall on the day.
 fn small_book() -> &'static [u8] {
-    kept(book_near(DAY, 12, &mut Rng::new(1)).bytes)
+    let mut file = book_near(DAY, 12, &mut Rng::new(1));
+    file.fill(0);
+    kept(file.bytes)
 }
 
 /// Of 65,535 bytes: small records of all kinds, any dates.

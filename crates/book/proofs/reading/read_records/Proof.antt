@@ -8,9 +8,10 @@ use mathlib.Core.List.{List}
 use native.Mathlib.Numerals.{add-one}
 use lib.ListN.{length}
 use Rattle.book.specs.Walk.{stepAt, walkFrom, walkOf, nextPlace}
-use Rattle.book.specs.Books.{afterEndRecord, accepted, counted}
+use Rattle.book.specs.Fillers.{afterEndRecord}
+use Rattle.book.specs.Books.{accepted, counted}
 use Rattle.book.specs.Settings.{settingsOf}
-use Rattle.book.specs.WalkLaws.{At, at-first, at-next, RecordAt, step-record, walk-record, walk-end, walk-stop}
+use Rattle.book.specs.WalkLaws.{At, at-first, at-next, RecordAt, step-record, step-end, walk-record, walk-end, walk-stop}
 use Rattle.book.specs.declared.types.StepAnswer.{StepAnswer}
 use Rattle.book.proofs.reading.read_records.Statement.{statement}
 use Rattle.book.proofs.reading.read_records.Tie as tie
@@ -66,7 +67,7 @@ add-after-end-record : tie.Need-add-after-end-record Inv-loop μ-loop
 add-after-end-record c = search needs
 
 after-end-record-requires : tie.Need-after-end-record-requires Inv-loop μ-loop
-after-end-record-requires c κs = search needs
+after-end-record-requires c κs = step-end _ _ (sym (c .before .before .before .step-at .ensures) ∙ c .before .enum-told .given .1) .there
 
 accepted-with-requires : tie.Need-accepted-with-requires Inv-loop μ-loop
 accepted-with-requires c κs = search needs

@@ -1,0 +1,165 @@
+//! The open vectors, made by an independent model of the papers: each case by the library and by the reference.
+
+use reference::calendar;
+use reference::calls::{Calls, PLAIN, PROVED};
+use reference::cases::{cases, word, Case};
+use reference::ffi::book::BookAnswer;
+use reference::ffi::pages::CountAnswer;
+
+/// The answer's words, and nothing of the question is left.
+fn answer(mut case: Case, calls: &Calls) -> String {
+    let answer = match case.call {
+        "read" => read(&mut case, calls),
+        "print" => print(&mut case, calls),
+        "export" => export(&mut case, calls),
+        "rewrite" => rewrite(&mut case, calls),
+        call => panic!("{}: unknown call {call}", case.name),
+    };
+    case.end();
+    answer
+}
+
+fn refused(number: u32, place: usize) -> String {
+    format!("refused {number} {place}")
+}
+
+fn read(case: &mut Case, calls: &Calls) -> String {
+    match (calls.read_book)(&case.bytes("book")) {
+        BookAnswer { number: 0, place: 0, records, start, granularity, alarm, lead, carry_forward } => {
+            let (alarm, carry_forward) = (u8::from(alarm), u8::from(carry_forward));
+            format!("ok {records} {start} {granularity} {alarm} {lead} {carry_forward}")
+        }
+        refusal => refused(refusal.number, refusal.place),
+    }
+}
+
+/// What a call wrote to such a buffer; the rest of it is to stay as it was.
+fn written(room: usize, write: impl FnOnce(&mut [u8]) -> CountAnswer) -> String {
+    const BEFORE: u8 = 0xEE;
+    let mut buffer = vec![BEFORE; room];
+    let CountAnswer { number, place, count } = write(&mut buffer);
+    assert!(buffer[count..].iter().all(|&byte| byte == BEFORE), "bytes past the end changed");
+    match number {
+        0 => format!("ok {}", word(&buffer[..count])),
+        _ => refused(number, place),
+    }
+}
+
+fn print(case: &mut Case, calls: &Calls) -> String {
+    let (book, day, choice) = (case.bytes("book"), case.number("day"), case.choice());
+    let room = (calls.page_length)(&book, day, choice).count + 9;
+    written(room, |buffer| (calls.print_page)(&book, day, choice, buffer))
+}
+
+fn export(case: &mut Case, calls: &Calls) -> String {
+    let (book, choice) = (case.bytes("book"), case.choice());
+    let (first, count) = (case.number("first"), case.number("count"));
+    written(calendar::LONGEST, |buffer| (calls.export)(&book, first, count, choice, buffer))
+}
+
+fn rewrite(case: &mut Case, calls: &Calls) -> String {
+    let book = case.bytes("book");
+    match (calls.read_book)(&book) {
+        BookAnswer { number: 0, .. } => format!("ok {}", word(&calls.written_again(&book))),
+        refusal => refused(refusal.number, refusal.place),
+    }
+}
+
+/// Runs all cases; gives how many there are.
+fn run(text: &str, calls: &Calls) -> usize {
+    let all = cases(text);
+    let mut names: Vec<&str> = all.iter().map(|case| case.name).collect();
+    names.sort();
+    assert!(names.windows(2).all(|pair| pair[0] != pair[1]), "a name twice");
+    let mut wrong = vec![];
+    for case in &all {
+        let given = answer(case.clone(), calls);
+        if given != case.answer {
+            wrong.push(format!("{}: {given:.200}, not {:.200}", case.name, case.answer));
+        }
+    }
+    let some = wrong[..wrong.len().min(20)].join("\n");
+    assert!(wrong.is_empty(), "{} wrong answers\n{some}", wrong.len());
+    all.len()
+}
+
+mod r01 {
+    use super::{run, PLAIN, PROVED};
+
+    const TEXT: &str = include_str!("vectors/r01.txt");
+    const CASES: usize = 505;
+
+    #[test]
+    fn by_the_library() {
+        assert_eq!(run(TEXT, &PROVED), CASES);
+    }
+
+    #[test]
+    fn by_the_reference() {
+        assert_eq!(run(TEXT, &PLAIN), CASES);
+    }
+}
+
+/// What `run` is to find fault with, on the case of document 01.
+mod faults {
+    use super::PLAIN;
+
+    const BOOK: &str = "ffff010001e0011e00010500010f00015d030f0258940205030000446570320000";
+    const ANSWER: &str = "ok 1 480 30 1 5 0";
+
+    fn run(text: &str) -> usize {
+        super::run(text, &PLAIN)
+    }
+
+    fn read(lines: &str, answer: &str) -> usize {
+        run(&format!("case a\ncall read\nbook {BOOK}\n{lines}answer {answer}\n"))
+    }
+
+    #[test]
+    fn none() {
+        assert_eq!(read("", ANSWER), 1);
+    }
+
+    #[test]
+    #[should_panic(expected = "a: ok 1 480 30 1 5 0, not ok 1 480 30 1 5 1")]
+    fn a_wrong_answer() {
+        read("", "ok 1 480 30 1 5 1");
+    }
+
+    #[test]
+    #[should_panic(expected = "a: unknown call reed")]
+    fn an_unknown_call() {
+        run(&format!("case a\ncall reed\nbook {BOOK}\nanswer {ANSWER}\n"));
+    }
+
+    #[test]
+    #[should_panic(expected = "a: unknown keys [\"day\"]")]
+    fn an_unknown_key() {
+        read("day 1\n", ANSWER);
+    }
+
+    #[test]
+    #[should_panic(expected = "a: a key twice")]
+    fn a_key_twice() {
+        read(&format!("book {BOOK}\n"), ANSWER);
+    }
+
+    #[test]
+    #[should_panic(expected = "a: no day")]
+    fn a_key_that_is_missing() {
+        run(&format!("case a\ncall print\nbook {BOOK}\nchoice last\nanswer ok -\n"));
+    }
+
+    #[test]
+    #[should_panic(expected = "not a case")]
+    fn a_line_behind_the_answer() {
+        read("", "ok 1 480 30 1 5 0\nneeded 1");
+    }
+
+    #[test]
+    #[should_panic(expected = "a name twice")]
+    fn a_name_twice() {
+        let case = format!("case a\ncall read\nbook {BOOK}\nanswer {ANSWER}\n");
+        run(&format!("{case}\n{case}"));
+    }
+}
