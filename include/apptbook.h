@@ -141,13 +141,13 @@ apptbook_day_answer apptbook_psion_of_calendar(uint16_t day);
  * APPTBOOK_AFTER_END (9). Of several faults the first in this order counts: 1, 2, 3; then record by
  * record 4 for the three head bytes, 5, 4 for the body, 6, 7, 8; after the end record 9. The place is 0
  * for 1 and 2, 5 for 3, and the record's type byte for 4 to 8; for 9 it is the first byte after the end
- * record where more than 127 follow it, else the first of them that is not 1Ah. A file without an end
- * record is 4 at the place behind its last record.
- *
- * Up to 127 bytes 1Ah after the end record, as a modem fills up its blocks of 128, are accepted. They
- * count in the size that 1 limits, and no other answer depends on them.
+ * record where more than 127 follow it, else the first of them that is not 1Ah. A file that stops
+ * without an end record is 4 at the place behind its last record.
  *
  * Only then comes APPTBOOK_NO_SUCH_NUMBER (10), with place 0.
+ *
+ * Up to 127 bytes 1Ah after the end record, with which a modem fills up its last block, are accepted.
+ * They count in the size that 1 limits, and no other answer depends on them.
  *
  * Records count from 0, to-dos too, the end record not. Lines of a note count from 0.
  * Places and lengths of texts, notes and lines are in bytes of the file that was lent; texts and lines
