@@ -13,7 +13,7 @@ use Rattle.prelude.specs.Refusals.{afterEnd, refusalAt, verdict-not}
 use Rattle.prelude.specs.declared.refusals.Verdict.{Verdict}
 use Rattle.book.specs.Settings.{settingsOf}
 use Rattle.book.specs.Walk.{Walk, more, ended, stopped, nextPlace, walkFrom, walkOf}
-use Rattle.book.specs.Fillers.{filler, mostFillers, fillersFrom, afterEndRecord, endIn, fillersOf, unfilled}
+use Rattle.book.specs.Fillers.{filler, mostFillers, fillersFrom, afterEndRecord, endIn, fillersOf, unfilled, Filled}
 use Rattle.book.specs.Books.{accepted, counted, bookOf}
 use Rattle.book.specs.WalkLaws.{At, at-first, met}
 use Rattle.book.specs.BookLaws.{refused-not, book-accepted, walk-counted}
@@ -86,11 +86,7 @@ pub book-ended : (f : List ℕ) {b : Book} → bookOf f ≡ BookAnswer.Accepted 
 unfolding walkOf
 book-ended f h = walk-ended f 0 12 (at-first (book-accepted f h .long)) (walkOf f) refl (walk-counted f h)
 
--- "Accept 0 to 127 bytes, all 1Ah, after the end record": what an accepted book is
-pub record Filled (f : List ℕ) : Type 0 where
-  pub whole : f ≡ unfilled f ++ replicate (fillersOf f) filler
-  pub most : fillersOf f ≤ mostFillers
-
+-- what an accepted book is
 pub book-filled : (f : List ℕ) {b : Book} → bookOf f ≡ BookAnswer.Accepted b → Filled f
 unfolding unfilled fillersOf afterEndRecord
 book-filled f h =

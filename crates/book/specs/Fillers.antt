@@ -1,8 +1,9 @@
 -- Bytes after the end record, document 02, request R-1: "Files from a modem come in blocks of 128, filled up with 1Ah."
 -- Assumes nothing.
-use Prim.Native.Nat.{ℕ, zero, suc, _+_, _-_}
-use mathlib.Core.List.{List}
-use lib.ListN.{length, take}
+use Prim.Native.Nat.{ℕ, zero, suc, _+_, _-_, _≤_}
+use mathlib.Core.Path.{_≡_}
+use mathlib.Core.List.{List, _++_}
+use lib.ListN.{length, take, replicate}
 use Rattle.prelude.specs.Choice.{ifLt, ifEq}
 use Rattle.prelude.specs.Bytes.{byte}
 use Rattle.prelude.specs.Refusals.{afterEnd, refusalAt}
@@ -40,3 +41,8 @@ fillersOf f = length f - endIn (walkOf f)
 -- the book without them
 unfoldable pub unfilled : List ℕ → List ℕ
 unfilled f = take (endIn (walkOf f)) f
+
+-- "Accept 0 to 127 bytes, all 1Ah, after the end record": a book that ends with its end record, and such bytes
+pub record Filled (f : List ℕ) : Type 0 where
+  pub whole : f ≡ unfilled f ++ replicate (fillersOf f) filler
+  pub most : fillersOf f ≤ mostFillers

@@ -12,4 +12,5 @@ pub mod NoteLaws
 pub mod FillerLaws
 pub mod AlikeLaws
 pub mod SameBook
+pub mod SameBookLaws
 pub mod Examples

@@ -4,7 +4,8 @@ pub mod Commands
 pub mod Responses
 pub mod ResponseLaws
 pub mod WordLaws
+pub mod SameAnswers
 pub mod SameRecordLaws
 pub mod SameDayLaws
-pub mod SameAnswers
+pub mod SameAnswerLaws
 pub mod Examples

@@ -6,12 +6,14 @@ use mathlib.Core.Bool.{Bool}
 use mathlib.Core.Logic.{⊎-elim}
 use mathlib.Core.List.{List, [], _∷_, map, List·Memᴰ, List·Memᴰ·head, List·Memᴰ·tail, List·Memᴰ·cases-cons, List·Memᴰ·not-nil, Memᴰ·of-map}
 use Rattle.prelude.specs.Keep.{keep}
+use Rattle.prelude.specs.Members.{map-same}
 use Rattle.prelude.specs.Order.{sort}
 use Rattle.days.specs.declared.types.CalendarDay.{CalendarDay}
 use Rattle.days.specs.declared.types.DayFacts.{DayFacts}
 use Rattle.book.specs.Books.{entryAt, placesOf, entriesOf}
 use Rattle.book.specs.Settings.{settingsOf}
-use Rattle.book.specs.SameBook.{SameBook, same-entries}
+use Rattle.book.specs.SameBook.{SameBook}
+use Rattle.book.specs.SameBookLaws.{same-entries}
 use Rattle.book.specs.declared.types.Entry.{Entry}
 use Rattle.falls.specs.declared.types.ShortMonth.{ShortMonth}
 use Rattle.pages.specs.Pages.{Numbered, numberedFrom, numbered, startOf, pageOf, fallsOn, pageOn, lineOf, nth}
@@ -47,11 +49,6 @@ unfolding pageLines pageLine lineOf
 lines-along f g [] t = refl
 lines-along f g (x ∷ xs) t = rw (t x (List·Memᴰ·head refl), lines-along f g xs (rest t))
 
-appointments-along : (f g : List ℕ) (i : ℕ) (xs : List Numbered) → Texts f g xs → map (appointmentOf g i) xs ≡ map (appointmentOf f i) xs
-unfolding appointmentOf
-appointments-along f g i [] t = refl
-appointments-along f g i (x ∷ xs) t = rw (t x (List·Memᴰ·head refl), appointments-along f g i xs (rest t))
-
 days-along : (l m : ℕ → List Appointment) → ((d : ℕ) → l d ≡ m d) → (count first : ℕ) → daysWith l count first ≡ daysWith m count first
 unfolding daysWith
 days-along l m e zero first = refl
@@ -85,8 +82,8 @@ module _ (f g : List ℕ) (s : SameBook f g) where
   page-text-same c d = rw (page-same (fallsOn c d), lines-along f g (pageOn c d f) (page-texts (fallsOn c d)))
 
   appointments-same : (shows : ℕ → Numbered → Bool) (i d : ℕ) → appointmentsFor shows g i d ≡ appointmentsFor shows f i d
-  unfolding appointmentsFor
-  appointments-same shows i d = rw (page-same (shows d)) (appointments-along f g i (pageOf (shows d) f) (page-texts (shows d)))
+  unfolding appointmentsFor appointmentOf
+  appointments-same shows i d = rw (page-same (shows d)) (map-same (appointmentOf f i) (appointmentOf g i) (pageOf (shows d) f) (λ x m. rw (page-texts (shows d) x m)))
 
   pub days-same : (shows : ℕ → Numbered → Bool) (first count : ℕ) → exportDays shows g first count ≡ exportDays shows f first count
   unfolding exportDays

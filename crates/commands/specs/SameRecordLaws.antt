@@ -1,11 +1,12 @@
 -- What two files that are read as the same book give of a record and its note: the same answers and the same bytes.
 -- Assumes nothing.
-use Prim.Native.Nat.{ℕ, zero, suc, _<_}
+use Prim.Native.Nat.{ℕ, _<_}
 use mathlib.Core.Path.{_≡_, refl, sym, _∙_, ap}
-use mathlib.Core.List.{List, [], _∷_, List·Memᴰ, List·Memᴰ·head, List·Memᴰ·tail}
+use mathlib.Core.List.{List}
 use native.Mathlib.Omega.{arith}
 use lib.ListN.{length, getD}
 use Rattle.prelude.specs.Choice.{is-ge, lt-elim}
+use Rattle.prelude.specs.Members.{member-at}
 use Rattle.notes.specs.Notes.{linesOf}
 use Rattle.book.specs.Books.{bookOf, entryAt, placesOf, recordFrom, recordAnswer, textIn, noteIn}
 use Rattle.book.specs.Lines.{noteFrom, linesIn, linesAnswer, lineOf, lineIn, lineAnswer}
@@ -17,14 +18,9 @@ use Rattle.book.specs.declared.types.Entry.{Entry}
 use Rattle.book.specs.declared.types.LinesAnswer.{LinesAnswer}
 use Rattle.book.specs.declared.types.RecordAnswer.{RecordAnswer}
 
-member-at : (xs : List ℕ) (k : ℕ) → k < length xs → List·Memᴰ (getD xs k 0) xs
-member-at [] k h = absurd (omega arith)
-member-at (x ∷ xs) zero h = List·Memᴰ·head refl
-member-at (x ∷ xs) (suc k) h = List·Memᴰ·tail (member-at xs k (omega arith))
-
 module _ (f g : List ℕ) (s : SameBook f g) (k : ℕ) where
   entry-there : k < length (placesOf f) → entryAt g (getD (placesOf g) k 0) ≡ entryAt f (getD (placesOf f) k 0)
-  entry-there h = rw (s .places) (s .entry (getD (placesOf f) k 0) (member-at (placesOf f) k h))
+  entry-there h = rw (s .places) (s .entry (getD (placesOf f) k 0) (member-at (placesOf f) k 0 h))
 
   from-same : (b : BookAnswer) → bookOf f ≡ b → recordFrom g k b ≡ recordFrom f k b
   unfolding recordFrom
@@ -41,7 +37,7 @@ module _ (f g : List ℕ) (s : SameBook f g) (k : ℕ) where
   texts-same : {e : Entry} → recordAnswer f k ≡ RecordAnswer.Record e → SameTexts f g e
   texts-same h =
       let r = record-found f k h in
-      rw (r .entry) at (s .texts (getD (placesOf f) k 0) (member-at (placesOf f) k (r .number)))
+      rw (r .entry) at (s .texts (getD (placesOf f) k 0) (member-at (placesOf f) k 0 (r .number)))
 
   pub text-same : textIn g (recordAnswer g k) ≡ textIn f (recordAnswer f k)
   unfolding textIn

@@ -1,14 +1,15 @@
 -- A book ready to be filled in: its kept records in order, and the sums of the span. What each record finds and leaves.
 -- Assumes nothing.
-use Prim.Native.Nat.{ℕ, zero, suc, _+_, _-_, _*_, _%_, _<_, _≤_}
+use Prim.Native.Nat.{ℕ, _+_, _-_, _*_, _%_, _<_, _≤_}
 use mathlib.Core.Path.{_≡_, refl, sym, ap, _∙_}
 use mathlib.Core.Bool.{Bool}
-use mathlib.Core.List.{List, [], _∷_, _++_, map, List·Memᴰ, List·Memᴰ·head, List·Memᴰ·tail}
+use mathlib.Core.List.{List, [], _∷_, _++_, map, List·Memᴰ, Memᴰ·map}
 use native.Mathlib.Omega.{arith}
 use native.Mathlib.Nat.{zero-add}
 use lib.ListN.{length, getD}
 use Rattle.prelude.specs.Choice.{is-true}
 use Rattle.prelude.specs.Keep.{keep, keep-member}
+use Rattle.prelude.specs.Members.{member-at}
 use Rattle.prelude.specs.Order.{sort, sort-member}
 use Rattle.book.specs.Books.{entryAt}
 use Rattle.book.specs.declared.types.Entry.{Entry}
@@ -67,12 +68,6 @@ ordered {f} {c} {first} {days} g e =
 zeros-size : (n unit : ℕ) → unit ≡ firstUnit n → 64 * units (12 * n) - 12 * n ≡ 64 * unit - (64 + 12 * n)
 zeros-size n unit e = omega arith
 
--- what an element becomes is a member of what the list becomes
-mem-map : {A B : Type 0} (g : A → B) (xs : List A) (n : ℕ) (d : A) → n < length xs → List·Memᴰ (g (getD xs n d)) (map g xs)
-mem-map g [] n d h = absurd (omega arith)
-mem-map g (x ∷ xs) zero d h = List·Memᴰ·head refl
-mem-map g (x ∷ xs) (suc n) d h = List·Memᴰ·tail (mem-map g xs n d (omega arith))
-
 place-at : (f : List ℕ) (at : ℕ) → entryAt f at .place ≡ at
 unfolding entryAt
 place-at f at = refl
@@ -92,7 +87,7 @@ module _ {f : List ℕ} {c : ShortMonth} {first : ℕ} {days sums codes : List �
       let b = r .counted in
       let xs : map (decode f) codes ≡ pageOf (keptIn c days) f = ap (map (decode f)) (r .kept) ∙ page-decoded f (b .long) (b .size) (keptIn c days) in
       let x : Numbered = decode f (getD codes n 0) in
-      let m : List·Memᴰ x (pageOf (keptIn c days) f) = rw xs at (mem-map (decode f) codes n 0 l) in
+      let m : List·Memᴰ x (pageOf (keptIn c days) f) = rw xs at (Memᴰ·map (decode f) (member-at codes n 0 l)) in
       let w : Whole b x = whole b (page-member (keptIn c days) m) in
       let e : w .at ≡ getD codes n 0 % 65536 = sym (place-at f (w .at)) ∙ ap (λ (y : Entry). y .place) (sym (w .entry)) ∙ decode-place f (getD codes n 0) in
       rw e at (w .sound)

@@ -5,5 +5,6 @@ pub mod Bytes
 pub mod Splice
 pub mod Grown
 pub mod Keep
+pub mod Members
 pub mod Order
 pub mod Totals

@@ -3,7 +3,7 @@
 use Prim.Native.Nat.{ℕ, suc, _+_, _≤_}
 use mathlib.Core.Path.{_≡_, refl}
 use mathlib.Core.Bool.{true}
-use mathlib.Core.List.{List, [], _∷_, _++_, map, append-assoc}
+use mathlib.Core.List.{List, [], _∷_, _++_, map, append-assoc, List·Memᴰ, List·Memᴰ·head, List·Memᴰ·tail}
 use native.Mathlib.Omega.{arith}
 use lib.ListN.{length, drop}
 use Rattle.prelude.specs.Bytes.{Bytes}
@@ -14,21 +14,13 @@ use Rattle.book.specs.Fillers.{endIn, fillersOf}
 use Rattle.book.specs.Books.{counted, bookOf, placesOf}
 use Rattle.book.specs.WalkLaws.{At, at-first, RecordAt, met}
 use Rattle.book.specs.BookLaws.{book-accepted, refused-not, walk-counted}
+use Rattle.book.specs.SameBookLaws.{book-places}
 use Rattle.book.specs.declared.types.Book.{Book}
 use Rattle.book.specs.declared.types.BookAnswer.{BookAnswer}
 use Rattle.writer.specs.Writing.{endBytes}
 use Rattle.writer.specs.Runs.{recordBytes, bookBytes, Fine, Items}
 use Rattle.writer.specs.Again.{itemAt, itemsOf, PlainAt, Each, Plain}
 use Rattle.writer.specs.PieceLaws.{settings-ok-range, open-again, record-again, end-again}
-
--- Each place met holds a record.
-records-met : (f : List ℕ) (n at : ℕ) → At f n at → (w : Walk) → walkFrom f n at ≡ w → Each (RecordAt f) (placesIn w)
-unfolding placesIn
-records-met f n at a (more p w) e =
-    let m = met f n at a e in
-    (rw (m .0) (m .1 .0), records-met f (suc n) (nextPlace f at) (m .1 .1 .0) w (m .1 .1 .1))
-records-met f n at a (ended p) e = tt
-records-met f n at a (stopped r) e = tt
 
 -- From a place on the file is the records ahead, and the end record.
 ahead-again :
@@ -52,14 +44,13 @@ item-addable f at r =
     let l = text-long (typeAt f at) (bodyAt f at) (omega arith) in
     record { short = omega arith; ranged = j .sound; clean = j .text; ruled = j .note }
 
-each-addable : (f : List ℕ) (places : List ℕ) → Each (RecordAt f) places → Items (map (itemAt f) places)
+each-addable : (f : List ℕ) (places : List ℕ) → ((at : ℕ) → List·Memᴰ at places → RecordAt f at) → Items (map (itemAt f) places)
 each-addable f [] h = tt
-each-addable f (at ∷ places) h = (item-addable f at (h .0), each-addable f places (h .1))
+each-addable f (at ∷ places) h = (item-addable f at (h at (List·Memᴰ·head refl)), each-addable f places (λ x i. h x (List·Memᴰ·tail i)))
 
 pub items-addable : (f : List ℕ) {b : Book} → bookOf f ≡ BookAnswer.Accepted b → Items (itemsOf f)
-unfolding itemsOf placesOf walkOf
-items-addable f h =
-    each-addable f (placesIn (walkOf f)) (records-met f 0 12 (at-first (book-accepted f h .long)) (walkOf f) refl)
+unfolding itemsOf
+items-addable f h = each-addable f (placesOf f) (λ at i. book-places f h at i .0)
 
 pub settings-range : (f : List ℕ) {b : Book} → bookOf f ≡ BookAnswer.Accepted b → settingsInRange (b .settings) ≡ true
 settings-range f h =
