@@ -27,7 +27,7 @@ pub struct Facts {
     pub month_length: u16,
 }
 
-pub fn is_leap(year: u16) -> bool {
+pub const fn is_leap(year: u16) -> bool {
     year % 4 == 0 && (year % 100 != 0 || year % 400 == 0)
 }
 
@@ -40,7 +40,7 @@ pub fn year_length(year: u16) -> u16 {
 }
 
 /// The month's days in any Gregorian year; 0 for a number that is no month.
-fn length(year: u16, month: u16) -> u16 {
+pub(crate) const fn length(year: u16, month: u16) -> u16 {
     match month {
         1 | 3 | 5 | 7 | 8 | 10 | 12 => 31,
         4 | 6 | 9 | 11 => 30,

@@ -4,8 +4,8 @@
 //! One module for each layer: `days` here is the plain one, `ffi::days` the proved one. Beside them:
 //! `vectors`, files written out by hand; `books` and `calendars`, which make files at random, and `writings`,
 //! which makes runs of writing calls; `cases`, which reads the open vectors; `calls`, the calls of both
-//! implementations; `civil` and `occurrences`, a third way to compute dates and when a record falls; `fuzz`,
-//! hostile inputs for every call and for the program; `callgrind`, which counts instructions.
+//! implementations; `civil` and `halving`, further ways to compute dates, and `occurrences`, one to compute when a
+//! record falls; `fuzz`, hostile inputs for every call and for the program; `callgrind`, which counts instructions.
 
 pub mod across_c;
 pub mod book;
@@ -20,6 +20,7 @@ pub mod days;
 pub mod export;
 pub mod ffi;
 pub mod fuzz;
+pub mod halving;
 pub mod notes;
 pub mod occurrences;
 pub mod pages;

@@ -9,3 +9,7 @@ pub mod OrderLaws
 pub mod FactsLaws
 pub mod AnswerLaws
 pub mod Table
+pub mod TableLaws
+pub mod Halving
+pub mod HalvingLaws
+pub mod HalvingExamples

@@ -9,7 +9,6 @@ use crate::answers::DayAnswer;
 use crate::answers::WeekdayAnswer;
 use crate::dates::is_real;
 use crate::search::month_of;
-use crate::table::table;
 use crate::types::CalendarDay;
 use crate::types::Date;
 use prelude::refusals::OUT_OF_RANGE;
@@ -54,12 +53,12 @@ pub fn date_of(n: u16) -> Date
     requires { ⌜ n ≤ lastDay ⌝ }
     ensures { λ r. ⌜ r ≡ dateOf n ⌝ }
 {
-    let t = table();
-    let i = month_of(&t, n);
+    let m = month_of(n);
+    let i = m.number;
     Date {
         year: (1980 + i / 12) as u16,
         month: (i % 12 + 1) as u16,
-        day: n - t[i] + 1,
+        day: n - m.start + 1,
     }
 }
 

@@ -1444,7 +1444,7 @@ const STARTS: [u16; 1440] = [
     43799,
 ];
 
-// The month starts. A constant is built anew at each use, so a call reads it once and lends it on.
+// The month starts. A constant is built anew at each use, but for what is read of it at fixed places alone, as `search` does.
 pub fn table() -> [u16; 1440]
     ensures { λ r. ⌜ Starts r ⌝ }
 {

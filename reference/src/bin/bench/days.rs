@@ -4,6 +4,7 @@ use super::{hidden, kept, row, Cells, Row, Run, Runs};
 use reference::civil;
 use reference::days::{self as plain, Date, FIRST_PSION_DAY, LAST_DAY, LAST_PSION_DAY};
 use reference::ffi::days as proved;
+use reference::halving;
 use reference::rng::Rng;
 use std::hint::black_box;
 
@@ -62,6 +63,9 @@ fn conversions() -> Vec<Row> {
                 over(&d.days, hidden(civil::date_of_day)),
             ]
         }),
+        day("date_of_day", "random days, both by halving", |d| {
+            [over(&d.days, |day| proved::date_of_day(day)), over(&d.days, hidden(halving::date_of_day)), None]
+        }),
         day("day_of_date", "random dates", |d| {
             [
                 over(&d.dates, |date| proved::day_of_date(date.year, date.month, date.day)),
@@ -75,6 +79,9 @@ fn conversions() -> Vec<Row> {
                 over(&d.days, hidden(plain::day_facts)),
                 over(&d.days, hidden(civil::day_facts)),
             ]
+        }),
+        day("day_facts", "random days, both by halving", |d| {
+            [over(&d.days, |day| proved::day_facts(day)), over(&d.days, hidden(halving::day_facts)), None]
         }),
     ]
 }

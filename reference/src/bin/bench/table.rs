@@ -79,7 +79,7 @@ fn per_unit(line: &Line) -> String {
 }
 
 const LEGEND: [&str; 5] = [
-    "proved: the library. reference: the plain second implementation, in Rust, by the release build; in the rows \"both across C\" behind the same C interface, and there the other way is the reference called from Rust in the same loop.",
+    "proved: the library. reference: the plain second implementation, in Rust, by the release build; in the rows \"both by halving\" its search in the table of month starts, by eleven halvings; in the rows \"both across C\" behind the same C interface, and there the other way is the reference called from Rust in the same loop.",
     "other way: a further way to the same answer, where there is one in this folder: closed formulas for days and dates, and for searches and exports jumps from one occurrence to the next. It is no limit.",
     "ratio: proved / reference; the goal is at or below 1. A hyphen: there is no such call, or no valgrind to count it.",
     "instructions are counted by callgrind; nanoseconds are the quickest of 30 passes.",

@@ -1,60 +1,74 @@
--- `month_of` meets its contract. The loop keeps the part that holds the day: month `low` starts at or before it, month `high` after it.
+-- `month_of` meets its contract: after k halvings `left` months are left, from month `low` of the 45 on, and eleven leave one month.
 -- Assumes nothing.
+use Prim.Native.Nat.{_+_, _-_, _≤_}
 use native.Mathlib.Omega.{arith}
-use Prim.Native.Nat.{ℕ, suc, _<_, _≤_, _+_, _-_, _/_}
-use mathlib.Core.Path.{_≡_, ap}
-use lib.ListN.{getD}
-use Rattle.days.specs.Days.{monthStart}
-use Rattle.days.specs.DayLaws.{start-zero, start-last}
+use mathlib.Core.Path.{_≡_}
+use native.Mathlib.Nat.{add-zero}
+use Rattle.days.specs.Halving.{Narrowed}
+use Rattle.days.specs.HalvingLaws.{rest-lower, rest-upper, found-by-eleven}
 use Rattle.days.proofs.search.month_of.Statement.{statement}
 use Rattle.days.proofs.search.month_of.Tie as tie
 
 abbrev Inv-loop : tie.InvT-loop
-Inv-loop t n low₀ high₀ low high = (low < high) × (high ≤ 1440) × (monthStart low ≤ n) × (n < monthStart high)
+Inv-loop n rest starts low₀ left₀ k₀ low left k = (k ≤ 11) × (low + left ≤ 45) × Narrowed n k (rest .first + low) left
 
 abbrev μ-loop : tie.MeasureT-loop
-μ-loop t n low₀ high₀ low high = high - low
+μ-loop n rest starts low₀ left₀ k₀ low left k = 11 - k
 
-abbrev middle : tie.In-loop Inv-loop μ-loop → ℕ
-middle c = c .before .loop .low + (c .before .loop .high - c .before .loop .low) / 2
-
--- the table's entry in the middle is that month's start
-entry : (c : tie.In-loop Inv-loop μ-loop) → getD (c .before .before .args .t .now) (middle c) 0 ≡ monthStart (middle c)
-entry c = c .before .before .pre .0 .start (middle c) (omega arith)
+rest-of-requires : tie.Need-rest-of-requires Inv-loop μ-loop
+rest-of-requires c κs = omega arith
 
 loop-holds : tie.Need-loop-holds Inv-loop μ-loop
-loop-holds c = omega (arith, start-zero, start-last)
+loop-holds c = (omega arith, omega arith, rw add-zero (c .before .rest-of .ensures .part))
 
-sub-loop : tie.Need-sub-loop Inv-loop μ-loop
-sub-loop c = omega arith
+add-k : tie.Need-add-k Inv-loop μ-loop
+add-k c = omega arith
 
-sub-middle : tie.Need-sub-middle Inv-loop μ-loop
-sub-middle c = omega arith
+sub-left : tie.Need-sub-left Inv-loop μ-loop
+sub-left c = omega arith
 
-add-middle : tie.Need-add-middle Inv-loop μ-loop
-add-middle c = omega arith
+add-if1 : tie.Need-add-if1 Inv-loop μ-loop
+add-if1 c = omega arith
 
 mul-if1 : tie.Need-mul-if1 Inv-loop μ-loop
 mul-if1 c = omega arith
 
-element-copy-out-if1 : tie.Need-element-copy-out-if1 Inv-loop μ-loop
-element-copy-out-if1 c = omega arith
+array-read-if1 : tie.Need-array-read-if1 Inv-loop μ-loop
+array-read-if1 c = omega arith
+
+add-low : tie.Need-add-low Inv-loop μ-loop
+add-low c = omega arith
 
 loop-less : tie.Need-loop-less Inv-loop μ-loop
 loop-less c = omega arith
 
 loop-again : tie.Need-loop-again Inv-loop μ-loop
-loop-again c = omega (arith, entry (c .before .before))
+loop-again c =
+    let l = c .before .before .loop .inv in
+    (omega arith, omega arith, rest-upper _ (c .before .before .before .before .rest-of .ensures .starts) (l .2) (l .1) (omega arith))
 
 loop-less-2 : tie.Need-loop-less-2 Inv-loop μ-loop
 loop-less-2 c = omega arith
 
 loop-again-2 : tie.Need-loop-again-2 Inv-loop μ-loop
-loop-again-2 c = omega (arith, entry (c .before .before))
+loop-again-2 c =
+    let l = c .before .before .loop .inv in
+    (omega arith, omega arith, rest-lower _ (c .before .before .before .before .rest-of .ensures .starts) (l .2) (l .1) (omega arith))
+
+add-t14 : tie.Need-add-t14 Inv-loop μ-loop
+add-t14 c = omega arith
+
+mul-t15 : tie.Need-mul-t15 Inv-loop μ-loop
+mul-t15 c = omega arith
+
+array-read-t18 : tie.Need-array-read-t18 Inv-loop μ-loop
+array-read-t18 c = omega arith
 
 returns : tie.Need-returns Inv-loop μ-loop
 returns c =
-    let e : c .before .loop .high ≡ suc (c .before .loop .low) = omega arith in omega (arith, ap monthStart e)
+    let l = c .before .before .loop .inv in
+    let e : c .before .before .loop .k ≡ 11 = omega arith in
+    found-by-eleven (rw e at (l .2)) (c .before .before .before .before .rest-of .ensures .starts .start _ (array-read-t18 c))
 
 pub month-of-spec : {M : Type 1} → statement M
 month-of-spec =
@@ -62,14 +76,19 @@ month-of-spec =
     (tie.spec
     Inv-loop
     μ-loop
+    rest-of-requires
     loop-holds
-    sub-loop
-    sub-middle
-    add-middle
+    add-k
+    sub-left
+    add-if1
     mul-if1
-    element-copy-out-if1
+    array-read-if1
+    add-low
     loop-less
     loop-again
     loop-less-2
     loop-again-2
+    add-t14
+    mul-t15
+    array-read-t18
     returns)
