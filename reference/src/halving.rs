@@ -48,7 +48,7 @@ impl Part {
     }
 }
 
-/// The table's entry for the day's month, and the date. As a call it would cost some 20 instructions more.
+/// The table's entry for the day's month, and the date. As a call it costs 18 to 27 instructions more.
 #[inline(always)]
 fn find(day: u16) -> Result<(usize, Date), Refusal> {
     if day > LAST_DAY {
