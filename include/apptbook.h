@@ -1,16 +1,17 @@
 /*
- * apptbook: the HP 95LX Appointment Book, its days, and the Windows Calendar file.
+ * apptbook: the HP 95LX Appointment Book, its days, the Windows Calendar file, and HP 200LX day chains.
  *
  * C header of the proved library libcabi.a (x86-64). No call keeps anything between calls or allocates
- * memory, and every argument gets an answer. Bytes are lent as a pointer and a number; all that is asked of a
- * caller is that so many are there, and that a buffer to be written to overlaps no other lent bytes. Whatever
- * the bytes are, they get an answer too. A call reads a file's bytes and changes none.
+ * memory, and every argument gets an answer. Bytes are lent as a pointer and a number, arrays of 16-bit numbers
+ * likewise; all that is asked of a caller is that so many are there, and that a buffer to be written to overlaps
+ * no other lent bytes. Whatever they are, they get an answer too. A call reads a file's bytes and changes none.
  * Only a buffer that is lent to be written into is changed, as said at the call. A call takes up to 90 kB of
  * stack; 128 kB are enough for the caller too.
  *
  * An answer is a struct by value. It begins with
  *   number   APPTBOOK_ACCEPTED (0), or the number of the refusal;
- *   place    the byte of the file that the refusal is about, 0 where no file byte is meant.
+ *   place    the byte of the file that the refusal is about, 0 where no file byte is meant; from number 30 on
+ *            the entry or the record, as said at the call.
  * On a refusal all its other fields are 0 or false, except in a writing state, which comes back as it was.
  */
 #ifndef APPTBOOK_H
@@ -49,7 +50,13 @@ enum {
     APPTBOOK_NOT_A_CALENDAR = 21,     /* under 64 bytes or wrong eight bytes */
     APPTBOOK_BAD_TABLE = 22,          /* table past the end, day over 43,829, or days not strictly rising */
     APPTBOOK_BAD_BLOCK = 23,          /* block inside head or table or past the end, or its first words wrong */
-    APPTBOOK_BAD_APPOINTMENT = 24     /* an appointment's size, flags, minute or closing zero wrong */
+    APPTBOOK_BAD_APPOINTMENT = 24,    /* an appointment's size, flags, minute or closing zero wrong */
+
+    /* HP 200LX day chains. */
+    APPTBOOK_BAD_ARRAYS = 30,         /* arrays not equally long, or over 4,096 */
+    APPTBOOK_BAD_DAY_TABLE = 31,      /* an entry cut short, not after the date before it, or 65,535 misplaced */
+    APPTBOOK_BAD_CHAIN = 32,          /* a head or a next that leads nowhere, or into another chain */
+    APPTBOOK_BAD_CHAIN_ORDER = 33     /* a record's kind, minute or order in its chain wrong */
 };
 
 /*
@@ -474,6 +481,37 @@ apptbook_appointment_answer apptbook_calendar_appointment(const uint8_t *file, s
  */
 apptbook_count_answer apptbook_export(const uint8_t *file, size_t len, uint16_t first, uint16_t count,
                                       bool last, uint8_t *buffer, size_t buffer_len);
+
+/*
+ * HP 200LX day chains.
+ *
+ * The Single Occurrence Table has five bytes an entry: three of a date, compared as bytes, the first one first,
+ * and a record number, low byte first: the head of that day's chain. The last entry, and only the last, has
+ * record number 65,535; its date is not looked at. The data records are handed over as four arrays, each with
+ * an element for each record number, from 0: its previous and its next record in the chain (65,535 for none),
+ * its kind (0 event, 1 appointment, 2 to-do) and its start minute. Records that no chain reaches may hold
+ * anything.
+ *
+ * count of the answer is the number of days: the entries before the last. Number 0 says that the chains of two
+ * days share no record, and that each chain ends, after at most as many records as there are.
+ *
+ * Refused, in this order, with the number of an entry or a record, from 0, as the place:
+ *   30  the arrays are not equally long, or longer than 4,096 (place 0);
+ *   31  the first entry that is cut short, whose date does not come after that of the entry before it, that has
+ *       65,535 and is not the last, or is the last and has not (an empty table: place 0). What is left at the
+ *       end of the table is its last entry, cut short;
+ *   32  the first entry whose head is no record, has a previous, or is the head of an earlier entry; after all
+ *       heads, chain by chain in the table's order, the first record whose next is neither 65,535 nor a record
+ *       that has it as its previous;
+ *   33  chain by chain, the first record with a kind over 2, an appointment's minute over 1,439, or out of
+ *       order: events come first, then appointments by minute, which may be equal, then to-dos. The minutes of
+ *       events and to-dos are not looked at.
+ */
+
+apptbook_count_answer apptbook_check_chains(const uint8_t *table, size_t table_len, const uint16_t *previous,
+                                            size_t previous_len, const uint16_t *next, size_t next_len,
+                                            const uint16_t *kinds, size_t kinds_len, const uint16_t *minutes,
+                                            size_t minutes_len);
 
 #ifdef __cplusplus
 }

@@ -51,3 +51,26 @@ pub unsafe extern "C" fn calendar_day(file: *const u8, len: usize, number: usize
     let file = unsafe { slice::from_raw_parts(file, len) };
     crate::calendar::calendar_day(file, number).into()
 }
+
+/// # Safety
+/// Each place and the length behind it are those of a slice.
+#[allow(clippy::too_many_arguments)]
+pub unsafe extern "C" fn check_chains(
+    table: *const u8,
+    table_len: usize,
+    previous: *const u16,
+    previous_len: usize,
+    next: *const u16,
+    next_len: usize,
+    kinds: *const u16,
+    kinds_len: usize,
+    minutes: *const u16,
+    minutes_len: usize,
+) -> CountAnswer {
+    let table = unsafe { slice::from_raw_parts(table, table_len) };
+    let previous = unsafe { slice::from_raw_parts(previous, previous_len) };
+    let next = unsafe { slice::from_raw_parts(next, next_len) };
+    let kinds = unsafe { slice::from_raw_parts(kinds, kinds_len) };
+    let minutes = unsafe { slice::from_raw_parts(minutes, minutes_len) };
+    crate::chains::check_chains(table, previous, next, kinds, minutes).into()
+}

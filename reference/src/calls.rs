@@ -1,4 +1,5 @@
-//! The calls on a book and the writing calls, by the library and by the reference, with answers of the same form.
+//! The calls on a book and on day chains and the writing calls, by the library and by the reference, with answers of
+//! the same form.
 
 use crate::ffi;
 use crate::ffi::book::{BookAnswer, LineAnswer, LinesAnswer, RecordAnswer};
@@ -6,9 +7,10 @@ use crate::ffi::pages::{CountAnswer, FallsAnswer, OccurrenceAnswer, PageLineAnsw
 use crate::ffi::writer::WriterAnswer;
 use crate::pages::ShortMonth;
 use crate::writer::{NewRecord, Writer};
-use crate::{book, export, pages, printed, writer};
+use crate::{book, chains, export, pages, printed, writer};
 
 type Add = fn(WriterAnswer, &mut [u8], RecordAnswer, &[u8], &[u8]) -> WriterAnswer;
+type CheckChains = fn(&[u8], &[u16], &[u16], &[u16], &[u16]) -> CountAnswer;
 
 pub struct Calls {
     pub name: &'static str,
@@ -26,6 +28,7 @@ pub struct Calls {
     pub open: fn(BookAnswer, &mut [u8]) -> WriterAnswer,
     pub add: Add,
     pub close: fn(WriterAnswer, &mut [u8]) -> WriterAnswer,
+    pub check_chains: CheckChains,
 }
 
 pub const PROVED: Calls = Calls {
@@ -44,6 +47,7 @@ pub const PROVED: Calls = Calls {
     open: ffi::writer::open,
     add: ffi::writer::add,
     close: ffi::writer::close,
+    check_chains: ffi::chains::check_chains,
 };
 
 pub const PLAIN: Calls = Calls {
@@ -65,6 +69,9 @@ pub const PLAIN: Calls = Calls {
         WriterAnswer::new(writer::add(state.state(), buffer, new), state.state())
     },
     close: |state, buffer| WriterAnswer::new(writer::close(state.state(), buffer), state.state()),
+    check_chains: |table, previous, next, kinds, minutes| {
+        chains::check_chains(table, previous, next, kinds, minutes).into()
+    },
 };
 
 impl Calls {

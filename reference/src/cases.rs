@@ -1,5 +1,6 @@
 //! The open vectors: blocks of lines, each a key and its value, with a blank line between two blocks. The answer is a
-//! block's last line. Bytes are lowercase hexadecimal digits, a hyphen for none.
+//! block's last line. Bytes are lowercase hexadecimal digits, a hyphen for none. A list has a space between numbers; an
+//! empty one is the key alone.
 
 use crate::pages::ShortMonth;
 use std::collections::BTreeMap;
@@ -40,6 +41,17 @@ impl<'a> Case<'a> {
 
     pub fn number(&mut self, key: &str) -> u16 {
         let word = self.take(key);
+        self.parsed(key, word)
+    }
+
+    pub fn list(&mut self, key: &str) -> Vec<u16> {
+        match self.take(key) {
+            "" => vec![],
+            words => words.split(' ').map(|word| self.parsed(key, word)).collect(),
+        }
+    }
+
+    fn parsed(&self, key: &str, word: &str) -> u16 {
         word.parse().unwrap_or_else(|e| panic!("{}: {key} is {word:.80}, {e}", self.name))
     }
 

@@ -1,10 +1,11 @@
-//! Hostile inputs without an end: random and damaged files, any numbers, any writing states and any lengths of
-//! buffers go through every call of the proved library, and hostile command lines through the proved program. Each
-//! answer and each buffer is compared with the reference.
+//! Hostile inputs without an end: random and damaged files and day chains, any numbers, any writing states and any
+//! lengths of buffers go through every call of the proved library, and hostile command lines through the proved
+//! program. Each answer and each buffer is compared with the reference.
 //!
 //! Every round has a seed of its own, so that a failure can be run again by itself.
 
 pub mod calls;
+pub mod chains;
 mod dates;
 pub mod files;
 mod look;

@@ -1,11 +1,12 @@
-//! A second implementation of document 01, written from the paper alone and as plainly as it can be,
+//! A second implementation of documents 01 and 02, written from the papers alone and as plainly as it can be,
 //! to be compared with the proved library.
 //!
 //! One module for each layer: `days` here is the plain one, `ffi::days` the proved one. Beside them:
-//! `vectors`, files written out by hand; `books` and `calendars`, which make files at random, and `writings`,
-//! which makes runs of writing calls; `cases`, which reads the open vectors; `calls`, the calls of both
-//! implementations; `civil` and `halving`, further ways to compute dates, and `occurrences`, one to compute when a
-//! record falls; `fuzz`, hostile inputs for every call and for the program; `callgrind`, which counts instructions.
+//! `vectors`, files written out by hand; `books`, `calendars` and `day_chains`, which make files and chains at random,
+//! and `writings`, which makes runs of writing calls; `cases`, which reads the open vectors; `calls`, the calls of both
+//! implementations; `civil` and `halving`, further ways to compute dates, `occurrences`, one to compute when a record
+//! falls, and `chain_rules`, one to judge day chains; `fuzz`, hostile inputs for every call and for the program;
+//! `callgrind`, which counts instructions.
 
 pub mod across_c;
 pub mod book;
@@ -15,7 +16,10 @@ pub mod calendars;
 pub mod callgrind;
 pub mod calls;
 pub mod cases;
+pub mod chain_rules;
+pub mod chains;
 pub mod civil;
+pub mod day_chains;
 pub mod days;
 pub mod export;
 pub mod ffi;

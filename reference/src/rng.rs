@@ -56,4 +56,10 @@ impl Rng {
     pub fn bytes(&mut self, count: usize) -> Vec<u8> {
         (0..count).map(|_| self.u8()).collect()
     }
+
+    pub fn shuffle<T>(&mut self, items: &mut [T]) {
+        for at in 1..items.len() {
+            items.swap(at, self.within(0..=at));
+        }
+    }
 }

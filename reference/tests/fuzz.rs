@@ -2,7 +2,9 @@
 
 use reference::book as plain_book;
 use reference::books::{book_of_span, crowded, Span};
-use reference::ffi::{book, export, pages};
+use reference::chains::MOST_RECORDS;
+use reference::day_chains::Plan;
+use reference::ffi::{book, chains, export, pages};
 use reference::fuzz::calls::Fuzz;
 use reference::fuzz::{files, program, Tally};
 use reference::pages::ShortMonth::{Last, Skip};
@@ -42,6 +44,7 @@ const CALLS: &[(&str, &[u32])] = &[
     ("calendar_appointments", &[0, 11, 20, 21, 22, 23, 24]),
     ("calendar_appointment", &[0, 10, 11, 20, 21, 22, 23, 24]),
     ("export", &[0, 1, 2, 3, 4, 5, 6, 7, 8, 9, 11, 12]),
+    ("check_chains", &[0, 30, 31, 32, 33]),
 ];
 
 #[test]
@@ -173,7 +176,8 @@ fn hostile_commands() {
 /// The calls that need most of it: 128 kB of stack are enough.
 #[test]
 fn a_small_stack() {
-    let calls = || {
+    let alone = Plan::random(MOST_RECORDS, &vec![1; MOST_RECORDS], &mut Rng::new(1)).lent;
+    let calls = move || {
         let file = crowded(1_300, 100).bytes;
         let mut buffer = vec![0; 2_228_224];
         assert_eq!(book::read_book(&file).records, 1_400);
@@ -181,6 +185,7 @@ fn a_small_stack() {
         assert_eq!(pages::print_page(&file, 4_822, Skip, &mut buffer).number, 0);
         assert_eq!(pages::next_occurrence(&file, 0, 0, Skip).number, 0);
         assert_eq!(export::export(&file, 4_822, 60, Skip, &mut buffer).number, 0);
+        assert_eq!(alone.lent_to(chains::check_chains).count, MOST_RECORDS);
     };
     thread::Builder::new().stack_size(128 * 1_024).spawn(calls).expect("a thread").join().expect("no panic");
 }

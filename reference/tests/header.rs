@@ -16,7 +16,7 @@ fn expected() -> String {
     format!("{REFUSALS}sizes {sizes}\n{CALLS}")
 }
 
-const REFUSALS: &str = "refusals 0 1 2 3 4 5 6 7 8 9 10 11 12 13 14 20 21 22 23 24\n";
+const REFUSALS: &str = "refusals 0 1 2 3 4 5 6 7 8 9 10 11 12 13 14 20 21 22 23 24 30 31 32 33\n";
 
 const CALLS: &str = "\
 month_length 0 0 29
@@ -55,26 +55,24 @@ fn succeed(command: &mut Command) -> Output {
     output
 }
 
-fn in_c99(source: &str) -> String {
-    run(source, "cc", &["-std=c99"])
+/// What a source prints, in either language.
+macro_rules! in_both {
+    ($source:literal, $expected:expr) => {
+        #[test]
+        fn the_header_works_in_c99() {
+            assert_eq!(crate::run($source, "cc", &["-std=c99"]), $expected);
+        }
+
+        #[test]
+        fn the_header_works_in_cpp() {
+            assert_eq!(crate::run($source, "c++", &["-std=c++11", "-x", "c++"]), $expected);
+        }
+    };
 }
 
-fn in_cpp(source: &str) -> String {
-    run(source, "c++", &["-std=c++11", "-x", "c++"])
-}
-
-#[test]
-fn the_header_works_in_c99() {
-    assert_eq!(in_c99("header.c"), expected());
-}
-
-#[test]
-fn the_header_works_in_cpp() {
-    assert_eq!(in_cpp("header.c"), expected());
-}
+in_both!("header.c", expected());
 
 mod book {
-    use super::{in_c99, in_cpp};
     use reference::ffi::book::{BookAnswer, LineAnswer, LinesAnswer, RecordAnswer};
 
     fn expected() -> String {
@@ -100,19 +98,10 @@ note_line 0 0 34 2 me
 note_line 10 0 0 0\u{20}
 ";
 
-    #[test]
-    fn the_header_works_in_c99() {
-        assert_eq!(in_c99("book.c"), expected());
-    }
-
-    #[test]
-    fn the_header_works_in_cpp() {
-        assert_eq!(in_cpp("book.c"), expected());
-    }
+    in_both!("book.c", expected());
 }
 
 mod writer {
-    use super::{in_c99, in_cpp};
     use reference::ffi::writer::WriterAnswer;
 
     fn expected() -> String {
@@ -130,19 +119,10 @@ close 14 0 33 1
 same 1
 ";
 
-    #[test]
-    fn the_header_works_in_c99() {
-        assert_eq!(in_c99("writer.c"), expected());
-    }
-
-    #[test]
-    fn the_header_works_in_cpp() {
-        assert_eq!(in_cpp("writer.c"), expected());
-    }
+    in_both!("writer.c", expected());
 }
 
 mod pages {
-    use super::{in_c99, in_cpp};
     use reference::ffi::pages::{CountAnswer, FallsAnswer, OccurrenceAnswer, PageLineAnswer};
 
     fn expected() -> String {
@@ -177,19 +157,10 @@ print_page 0 0 30
 #
 ";
 
-    #[test]
-    fn the_header_works_in_c99() {
-        assert_eq!(in_c99("pages.c"), expected());
-    }
-
-    #[test]
-    fn the_header_works_in_cpp() {
-        assert_eq!(in_cpp("pages.c"), expected());
-    }
+    in_both!("pages.c", expected());
 }
 
 mod calendar {
-    use super::{in_c99, in_cpp};
     use reference::ffi::calendar::{AppointmentAnswer, DescriptorAnswer};
 
     fn expected() -> String {
@@ -213,20 +184,10 @@ calendar_appointment 10 0 text 0 0 minute 0 flags 0\u{20}
 calendar_appointment 11 0 text 0 0 minute 0 flags 0\u{20}
 ";
 
-    #[test]
-    fn the_header_works_in_c99() {
-        assert_eq!(in_c99("calendar.c"), expected());
-    }
-
-    #[test]
-    fn the_header_works_in_cpp() {
-        assert_eq!(in_cpp("calendar.c"), expected());
-    }
+    in_both!("calendar.c", expected());
 }
 
 mod export {
-    use super::{in_c99, in_cpp};
-
     const CALLS: &str = "\
 export 4 30 0
 export 11 0 0
@@ -239,13 +200,27 @@ calendar_appointment 0 0 600 1 Dep
 untouched 1
 ";
 
-    #[test]
-    fn the_header_works_in_c99() {
-        assert_eq!(in_c99("export.c"), CALLS);
-    }
+    in_both!("export.c", CALLS);
+}
 
-    #[test]
-    fn the_header_works_in_cpp() {
-        assert_eq!(in_cpp("export.c"), CALLS);
-    }
+mod chains {
+    const CALLS: &str = "\
+check_chains 0 0 2
+check_chains 31 2 0
+check_chains 31 1 0
+check_chains 31 0 0
+check_chains 32 1 0
+check_chains 32 0 0
+check_chains 30 0 0
+check_chains 30 0 0
+check_chains 30 0 0
+check_chains 30 0 0
+check_chains 32 0 0
+check_chains 32 0 0
+check_chains 33 0 0
+check_chains 0 0 0
+check_chains 31 0 0
+";
+
+    in_both!("chains.c", CALLS);
 }

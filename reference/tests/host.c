@@ -117,6 +117,35 @@ static void see_written(const uint8_t *file, size_t len, apptbook_book_answer bo
     free(buffer);
 }
 
+/* Takes an array of that length, or what there is of it, from the file's rest. */
+static uint16_t *take_words(const uint8_t **rest, size_t *left, size_t *length) {
+    if (*length > *left / 2) *length = *left / 2;
+    uint16_t *words = (uint16_t *)(void *)some(2 * *length);
+    for (size_t i = 0; i < *length; i++) words[i] = (uint16_t)((*rest)[2 * i] | (*rest)[2 * i + 1] << 8);
+    *rest += 2 * *length;
+    *left -= 2 * *length;
+    return words;
+}
+
+/* The file as day chains: four lengths, four arrays, and the table. */
+static apptbook_count_answer see_chains(const uint8_t *file, size_t len) {
+    size_t lengths[4] = {0, 0, 0, 0}, left = len;
+    const uint8_t *rest = file;
+    uint16_t *arrays[4];
+    if (len >= 8) {
+        for (int i = 0; i < 4; i++) lengths[i] = (size_t)file[2 * i] | (size_t)file[2 * i + 1] << 8;
+        rest += 8;
+        left -= 8;
+    }
+    for (int i = 0; i < 4; i++) arrays[i] = take_words(&rest, &left, &lengths[i]);
+    uint8_t *table = copy(rest, left);
+    apptbook_count_answer answer = apptbook_check_chains(table, left, arrays[0], lengths[0], arrays[1], lengths[1],
+                                                         arrays[2], lengths[2], arrays[3], lengths[3]);
+    for (int i = 0; i < 4; i++) free(arrays[i]);
+    free(table);
+    return answer;
+}
+
 /* The numbers that all calls give for it, whatever it is. */
 static void see_numbers(const uint8_t *file, size_t len) {
     uint8_t byte = 0;
@@ -140,6 +169,7 @@ static void look(const uint8_t *file, size_t len) {
     hash = UINT64_C(14695981039346656037);
     apptbook_book_answer book = apptbook_read_book(file, len);
     apptbook_count_answer calendar = apptbook_read_calendar(file, len);
+    apptbook_count_answer chains = see_chains(file, len);
     see_numbers(file, len);
     if (book.number == 0) {
         for (size_t i = 0; i < book.records && i < MOST_RECORDS; i++) see_record(file, len, i);
@@ -152,8 +182,9 @@ static void look(const uint8_t *file, size_t len) {
         see_written(file, len, book);
     }
     if (calendar.number == 0) see_calendar(file, len);
-    printf("%u %zu %zu %u %zu %zu %016llx\n", (unsigned)book.number, book.place, book.records,
-           (unsigned)calendar.number, calendar.place, calendar.count, (unsigned long long)hash);
+    printf("%u %zu %zu ", (unsigned)book.number, book.place, book.records);
+    printf("%u %zu %zu ", (unsigned)calendar.number, calendar.place, calendar.count);
+    printf("%u %zu %zu %016llx\n", (unsigned)chains.number, chains.place, chains.count, (unsigned long long)hash);
 }
 
 int main(int argc, char **argv) {

@@ -1,7 +1,8 @@
 //! Lengths that more than 32 bits hold. Of the bytes lent, only the first have memory; the rest are zeros that cannot be
 //! written to.
 
-use reference::ffi::{book, calendar, export, pages, writer};
+use reference::chains::NONE;
+use reference::ffi::{book, calendar, chains, export, pages, writer};
 use reference::pages::CHOICES;
 use reference::refusal::Refusal;
 use reference::vectors::{calendars, WHOLE_CASE};
@@ -102,4 +103,59 @@ fn huge_texts() {
         assert_eq!((answer.number, answer.place), (number, 0), "text of {text}, note of {note}");
         assert_eq!(buffer == before, number != 0);
     }
+}
+
+/// A right table of one day.
+const TABLE: [u8; 10] = [93, 3, 15, 0, 0, 0, 0, 0, 255, 255];
+
+/// Arrays whose low 32 bits, or low 16 bits, would be right lengths.
+#[test]
+fn huge_arrays() {
+    let bytes = &*lent(&NONE.to_le_bytes(), 2 * (HUGE + 1));
+    // SAFETY: any bytes are numbers.
+    let (_, numbers, _) = unsafe { bytes.align_to::<u16>() };
+    assert_eq!((numbers.len(), numbers[0], numbers[1]), (HUGE + 1, NONE, 0));
+    let refused = Err(Refusal { number: 30, place: 0 }).into();
+    for length in [FRONT + 1, HUGE, HUGE + 1] {
+        for array in 0..4 {
+            let mut arrays = [&numbers[..1]; 4];
+            arrays[array] = &numbers[..length];
+            let [previous, next, kinds, minutes] = arrays;
+            let answer = chains::check_chains(&TABLE, previous, next, kinds, minutes);
+            assert_eq!(answer, refused, "{length} in array {array}");
+        }
+        let all = &numbers[..length];
+        assert_eq!(chains::check_chains(&TABLE, all, all, all, all), refused, "{length}");
+    }
+    let one = &numbers[..1];
+    assert_eq!(chains::check_chains(&TABLE, one, one, &[0], &[0]), Ok(1).into());
+}
+
+/// The right table and zeros behind it: its last entry stands before others.
+#[test]
+fn huge_tables() {
+    let table = &*lent(&TABLE, HUGE + 10);
+    for length in [FRONT + 10, HUGE, HUGE + 10] {
+        let answer = chains::check_chains(&table[..length], &[NONE], &[NONE], &[0], &[0]);
+        assert_eq!(answer, Err(Refusal { number: 31, place: 1 }).into(), "{length}");
+    }
+}
+
+/// A table of every date that three bytes hold, all with record 0. A last entry makes it right, but for the heads.
+#[test]
+fn every_date() {
+    let all = 0..1 << 24;
+    let entry = |date: u32| {
+        let [_, first, second, third] = date.to_be_bytes();
+        [first, second, third, 0, 0]
+    };
+    let mut table: Vec<u8> = all.flat_map(entry).collect();
+    let check = |table: &[u8]| chains::check_chains(table, &[NONE], &[NONE], &[0], &[0]);
+    assert_eq!(check(&table), Err(Refusal { number: 31, place: 16_777_215 }).into());
+    table.extend([0, 0, 0, 255]);
+    assert_eq!(check(&table), Err(Refusal { number: 31, place: 16_777_216 }).into());
+    table.push(255);
+    assert_eq!(check(&table), Err(Refusal { number: 32, place: 1 }).into());
+    table.extend([0, 0, 0, 255, 255]);
+    assert_eq!(check(&table), Err(Refusal { number: 31, place: 16_777_216 }).into());
 }

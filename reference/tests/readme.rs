@@ -19,12 +19,12 @@ fn readme() -> String {
     fs::read_to_string(top().join("README.md")).expect("README.md")
 }
 
-/// The only code block of a language.
-fn fenced(text: &str, language: &str) -> String {
+/// The code blocks of a language, which are so many.
+fn fenced<const N: usize>(text: &str, language: &str) -> [String; N] {
     let fence = format!("\n```{language}\n");
-    let parts: Vec<&str> = text.split(&fence).collect();
-    assert_eq!(parts.len(), 2, "one block of {language}");
-    parts[1].split_once("\n```\n").expect("the block's end").0.to_owned() + "\n"
+    let block = |part: &str| part.split_once("\n```\n").expect("the block's end").0.to_owned() + "\n";
+    let blocks: Vec<String> = text.split(&fence).skip(1).map(block).collect();
+    blocks.try_into().unwrap_or_else(|blocks| panic!("not {N} blocks of {language}: {blocks:?}"))
 }
 
 /// Indented blocks, without the indent, outside of fenced ones.
@@ -83,22 +83,25 @@ struct Example {
     shown: String,
 }
 
-fn example(language: &str, file: &str, compiler: &str) -> Example {
-    let text = readme();
-    let folder = folder(language);
-    fs::write(folder.join(file), fenced(&text, language)).expect("a file");
-    let blocks = indented(&text);
-    let at = beginning(&blocks, compiler);
+fn plain(bytes: Vec<u8>) -> String {
+    String::from_utf8(bytes).expect("plain text")
+}
+
+fn example(code: &str, file: &str, command: &str) -> Example {
+    let folder = folder(file);
+    fs::write(folder.join(file), code).expect("a file");
+    let blocks = indented(&readme());
+    let at = beginning(&blocks, command);
     assert!(blocks[at].ends_with("\n./example < examples/case.book\n"), "{}", blocks[at]);
-    let text = |bytes| String::from_utf8(bytes).expect("plain text");
-    let printed = text(shell(&folder, &blocks[at]));
-    let refused = text(shell(&folder, "head -c 32 examples/case.book | ./example || true\n"));
+    let printed = plain(shell(&folder, &blocks[at]));
+    let refused = plain(shell(&folder, "head -c 32 examples/case.book | ./example || true\n"));
     Example { printed, refused, shown: blocks[at + 1].clone() }
 }
 
 #[test]
 fn the_c_example() {
-    let Example { printed, refused, shown } = example("c", "example.c", "cc ");
+    let [code, _] = fenced(&readme(), "c");
+    let Example { printed, refused, shown } = example(&code, "example.c", "cc -Iinclude example.c ");
     assert_eq!(printed, "kind 1: Dep\n");
     assert_eq!(shown, printed);
     assert_eq!(refused, "4 30\n");
@@ -106,9 +109,29 @@ fn the_c_example() {
 
 #[test]
 fn the_rust_example() {
-    let Example { printed, refused, .. } = example("rust", "example.rs", "rustc ");
+    let [code] = fenced(&readme(), "rust");
+    let Example { printed, refused, .. } = example(&code, "example.rs", "rustc ");
     assert_eq!(printed, PAGE);
     assert_eq!(refused, "4 30\n");
+}
+
+#[test]
+fn the_example_of_day_chains() {
+    let text = readme();
+    let [_, code] = fenced(&text, "c");
+    let blocks = indented(&text);
+    let at = beginning(&blocks, "cc -Iinclude chains.c ");
+    assert!(blocks[at].ends_with("\n./chains\n"), "{}", blocks[at]);
+    let folder = folder("chains.c");
+    let printed = |code: &str| {
+        fs::write(folder.join("chains.c"), code).expect("a file");
+        plain(shell(&folder, &blocks[at]))
+    };
+    assert_eq!(printed(&code), "2 days\n");
+    assert_eq!(blocks[at + 1], "2 days\n");
+    assert!(text.contains("\nWith the two minutes exchanged it prints `33 0`"));
+    assert!(code.contains("{600, 540, 0}"), "{code}");
+    assert_eq!(printed(&code.replace("{600, 540, 0}", "{540, 600, 0}")), "33 0\n");
 }
 
 #[test]

@@ -1,11 +1,15 @@
 //! `host.c`, compiled with gcc's sanitizers for addresses and undefined behaviour: it looks at every byte that an answer
 //! points to, in files and buffers allocated with just their length. What it saw is what the reference gives.
 
+use reference::chains::check_chains;
+use reference::day_chains::{packed, unpacked};
+use reference::ffi::pages::CountAnswer;
+use reference::fuzz::chains::any_chains;
 use reference::fuzz::files;
 use reference::pages::{ShortMonth, CHOICES};
 use reference::rng::Rng;
 use reference::vectors::fillers::filled;
-use reference::vectors::{calendars, every_kind, WHOLE_CASE};
+use reference::vectors::{calendars, chains, every_kind, WHOLE_CASE};
 use reference::writer::{self, NewRecord};
 use reference::{book, calendar, export, ffi, notes, pages, printed};
 use std::fs;
@@ -122,7 +126,8 @@ impl Hash {
 fn line(file: &[u8]) -> String {
     let mut hash = Hash(14_695_981_039_346_656_037);
     let book: ffi::book::BookAnswer = book::read_book(file).into();
-    let calendar: ffi::pages::CountAnswer = calendar::read_calendar(file).into();
+    let calendar: CountAnswer = calendar::read_calendar(file).into();
+    let chains: CountAnswer = unpacked(file).lent_to(check_chains).into();
     hash.numbers(file);
     if book.number == 0 {
         for number in 0..book.records.min(MOST_RECORDS) {
@@ -140,8 +145,8 @@ fn line(file: &[u8]) -> String {
         hash.calendar(file);
     }
     let of_book = format!("{} {} {}", book.number, book.place, book.records);
-    let of_calendar = format!("{} {} {}", calendar.number, calendar.place, calendar.count);
-    format!("{of_book} {of_calendar} {:016x}", hash.0)
+    let counted = |answer: CountAnswer| format!("{} {} {}", answer.number, answer.place, answer.count);
+    format!("{of_book} {} {} {:016x}", counted(calendar), counted(chains), hash.0)
 }
 
 fn succeed(command: &mut Command) -> Output {
@@ -178,8 +183,9 @@ fn every_byte_that_an_answer_points_to() {
     let mut all =
         vec![vec![], WHOLE_CASE.to_vec(), every_kind(), calendars::whole_case(), calendars::two_days()];
     all.extend([1, 95, 127, 128].map(filled));
+    all.extend([packed(&chains::example()), packed(&chains::three_days())]);
     for _ in 0..300 {
-        all.extend([files::book(&mut rng), files::calendar(&mut rng)]);
+        all.extend([files::book(&mut rng), files::calendar(&mut rng), packed(&any_chains(&mut rng))]);
     }
     let names: Vec<PathBuf> = (0..all.len()).map(|number| folder.join(format!("{number:04}"))).collect();
     for (name, file) in names.iter().zip(&all) {
@@ -195,4 +201,6 @@ fn every_byte_that_an_answer_points_to() {
     assert_eq!(seen.next(), None);
     let right = all.iter().filter(|file| book::read_book(file).is_ok()).count();
     assert!(right >= 50, "{right} right books");
+    let right = all.iter().filter(|file| unpacked(file).lent_to(check_chains).is_ok()).count();
+    assert!(right >= 50, "{right} right day chains");
 }

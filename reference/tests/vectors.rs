@@ -13,6 +13,7 @@ fn answer(mut case: Case, calls: &Calls) -> String {
         "print" => print(&mut case, calls),
         "export" => export(&mut case, calls),
         "rewrite" => rewrite(&mut case, calls),
+        "chains" => chains(&mut case, calls),
         call => panic!("{}: unknown call {call}", case.name),
     };
     case.end();
@@ -65,6 +66,15 @@ fn rewrite(case: &mut Case, calls: &Calls) -> String {
     }
 }
 
+fn chains(case: &mut Case, calls: &Calls) -> String {
+    let table = case.bytes("table");
+    let [previous, next, kinds, minutes] = ["previous", "next", "kinds", "minutes"].map(|key| case.list(key));
+    match (calls.check_chains)(&table, &previous, &next, &kinds, &minutes) {
+        CountAnswer { number: 0, place: 0, count } => format!("ok {count}"),
+        CountAnswer { number, place, .. } => refused(number, place),
+    }
+}
+
 /// Runs all cases; gives how many there are.
 fn run(text: &str, calls: &Calls) -> usize {
     let all = cases(text);
@@ -83,22 +93,29 @@ fn run(text: &str, calls: &Calls) -> usize {
     all.len()
 }
 
-mod r01 {
-    use super::{run, PLAIN, PROVED};
+/// The file of a request, with its number of cases.
+macro_rules! vectors {
+    ($request:ident, $file:literal, $cases:literal) => {
+        mod $request {
+            use super::{run, PLAIN, PROVED};
 
-    const TEXT: &str = include_str!("vectors/r01.txt");
-    const CASES: usize = 505;
+            const TEXT: &str = include_str!($file);
 
-    #[test]
-    fn by_the_library() {
-        assert_eq!(run(TEXT, &PROVED), CASES);
-    }
+            #[test]
+            fn by_the_library() {
+                assert_eq!(run(TEXT, &PROVED), $cases);
+            }
 
-    #[test]
-    fn by_the_reference() {
-        assert_eq!(run(TEXT, &PLAIN), CASES);
-    }
+            #[test]
+            fn by_the_reference() {
+                assert_eq!(run(TEXT, &PLAIN), $cases);
+            }
+        }
+    };
 }
+
+vectors!(r01, "vectors/r01.txt", 505);
+vectors!(r02, "vectors/r02.txt", 528);
 
 /// What `run` is to find fault with, on the case of document 01.
 mod faults {
@@ -148,6 +165,28 @@ mod faults {
     #[should_panic(expected = "a: no day")]
     fn a_key_that_is_missing() {
         run(&format!("case a\ncall print\nbook {BOOK}\nchoice last\nanswer ok -\n"));
+    }
+
+    #[test]
+    fn lists() {
+        let lists = "previous 65535 0\nnext 1 65535\nkinds 0 2\nminutes 7 65535\n";
+        assert_eq!(run(&format!("case a\ncall chains\ntable 5d030f0000000000ffff\n{lists}answer ok 1\n")), 1);
+        let lists = "previous\nnext\nkinds\nminutes\n";
+        assert_eq!(run(&format!("case a\ncall chains\ntable 000000ffff\n{lists}answer ok 0\n")), 1);
+    }
+
+    #[test]
+    #[should_panic(expected = "a: next is 65536")]
+    fn a_number_too_high() {
+        run(
+            "case a\ncall chains\ntable -\nprevious 0\nnext 65536\nkinds 0\nminutes 0\nanswer refused 31 0\n",
+        );
+    }
+
+    #[test]
+    #[should_panic(expected = "a: kinds is ")]
+    fn two_spaces_in_a_list() {
+        run("case a\ncall chains\ntable -\nprevious\nnext\nkinds 0  1\nminutes\nanswer refused 30 0\n");
     }
 
     #[test]

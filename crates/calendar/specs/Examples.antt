@@ -8,7 +8,8 @@ use Rattle.prelude.specs.Choice.{ifLt, ifEq, ifB}
 use Rattle.prelude.specs.Bytes.{le16}
 use Rattle.calendar.specs.File.{Appointment, Day, zeros, filled, appointmentBytes, appointmentsBytes, blockBytes, blocks, alarms, descriptorBytes, table, headBytes, fileOf}
 use Rattle.calendar.specs.Lists.{firstZero, appointmentOk, walkF, walkFrom, placesIn, verdictIn}
-use Rattle.calendar.specs.Reader.{sameBytes, identified, andThen, tableFrom, blockOk, dayVerdict, daysFrom, answered, calendarOf}
+use Rattle.prelude.specs.Verdicts.{andThen}
+use Rattle.calendar.specs.Reader.{sameBytes, identified, tableFrom, blockOk, dayVerdict, daysFrom, answered, calendarOf}
 use Rattle.calendar.specs.Shown.{placesFrom, placesOn, appointmentAt, appointmentsOn}
 use Rattle.calendar.specs.declared.types.CalendarSettings.{CalendarSettings}
 use Rattle.calendar.specs.declared.types.CalendarAnswer.{CalendarAnswer}

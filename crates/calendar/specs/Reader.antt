@@ -7,6 +7,7 @@ use lib.ListN.{length}
 use Rattle.prelude.specs.Choice.{ifLt, ifEq, ifB}
 use Rattle.prelude.specs.Bytes.{byte, word}
 use Rattle.prelude.specs.Refusals.{calendarTooLong, notACalendar, badTable, badBlock, refusal, refusalAt}
+use Rattle.prelude.specs.Verdicts.{andThen}
 use Rattle.prelude.specs.declared.refusals.Verdict.{Verdict}
 use Rattle.days.specs.Days.{lastDay}
 use Rattle.calendar.specs.Lists.{Walk, walkFrom, verdictIn}
@@ -57,11 +58,6 @@ listPlace f b = b + 10 + word f (b + 6)
 
 abbrev pub listEnd : List ℕ → ℕ → ℕ
 listEnd f b = listPlace f b + word f (b + 8)
-
--- a verdict, and where it is fine the next
-unfoldable pub andThen : Verdict → Verdict → Verdict
-andThen Verdict.Fine w = w
-andThen (Verdict.Refused e) w = Verdict.Refused e
 
 -- "day over 43,829, or days not strictly rising": k descriptors from place p on, none of a day below low
 unfoldable pub tableFrom : ℕ → List ℕ → ℕ → ℕ → Verdict

@@ -9,29 +9,16 @@ use lib.ListN.{length}
 use Rattle.prelude.specs.Choice.{is-lt, is-ge, is-eq, is-true, is-false, lt-skip, eq-take, b-take}
 use Rattle.prelude.specs.Bytes.{word}
 use Rattle.prelude.specs.Refusals.{badTable, badBlock, refusalAt, verdict-not}
+use Rattle.prelude.specs.Verdicts.{then-fine, then-refused, both-fine}
 use Rattle.prelude.specs.declared.refusals.Refusal.{Refusal}
 use Rattle.prelude.specs.declared.refusals.Verdict.{Verdict}
 use Rattle.days.specs.Days.{lastDay}
 use Rattle.calendar.specs.Lists.{verdictIn}
-use Rattle.calendar.specs.Reader.{mostBytes, identified, countOf, tableEnd, dayAt, offsetAt, blockAt, listEnd, andThen, tableFrom, blockOk, listOf, dayVerdict, daysFrom, answered, calendarOf}
+use Rattle.calendar.specs.Reader.{mostBytes, identified, countOf, tableEnd, dayAt, offsetAt, blockAt, listEnd, tableFrom, blockOk, listOf, dayVerdict, daysFrom, answered, calendarOf}
 use Rattle.calendar.specs.declared.types.CalendarAnswer.{CalendarAnswer}
 
 answer-not : {e : Refusal} {n : ℕ} → CalendarAnswer.Refused e ≡ CalendarAnswer.Accepted n → ⊥
 answer-not c = let z : _≡_ {A = ℕ} 0 1 = cc in omega arith
-
--- one verdict after the other
-pub then-fine : (w : Verdict) → andThen Verdict.Fine w ≡ w
-unfolding andThen
-then-fine w = refl
-
-pub then-refused : (e : Refusal) (w : Verdict) → andThen (Verdict.Refused e) w ≡ Verdict.Refused e
-unfolding andThen
-then-refused e w = refl
-
-pub both-fine : (v w : Verdict) → andThen v w ≡ Verdict.Fine → (v ≡ Verdict.Fine) × (w ≡ Verdict.Fine)
-unfolding andThen
-both-fine Verdict.Fine w h = (refl, h)
-both-fine (Verdict.Refused e) w h = absurd (verdict-not h)
 
 -- the table: of no descriptor, a day over the last, a day that does not rise, a day that does
 module _ (f : List ℕ) (p low : ℕ) where
@@ -99,11 +86,11 @@ module _ (f : List ℕ) (p : ℕ) where
 
   pub days-next : (k : ℕ) → dayVerdict f p ≡ Verdict.Fine → daysFrom (suc k) f p ≡ daysFrom k f (p + 12)
   unfolding daysFrom
-  days-next k h = rw h (then-fine _)
+  days-next k h = then-fine _ refl h
 
   pub days-stop : (k : ℕ) {e : Refusal} → dayVerdict f p ≡ Verdict.Refused e → daysFrom (suc k) f p ≡ Verdict.Refused e
   unfolding daysFrom
-  days-stop k h = rw h (then-refused _ _)
+  days-stop k h = then-refused _ refl h
 
   pub days-fine : (k : ℕ) → daysFrom (suc k) f p ≡ Verdict.Fine → (dayVerdict f p ≡ Verdict.Fine) × (daysFrom k f (p + 12) ≡ Verdict.Fine)
   unfolding daysFrom
@@ -144,7 +131,7 @@ calendar-facts f {n} h =
 pub facts-calendar : (f : List ℕ) (n : ℕ) → AcceptedFile f n → calendarOf f ≡ CalendarAnswer.Accepted n
 unfolding calendarOf
 facts-calendar f n a =
-    rw (is-ge (a .size), is-true (a .named), is-ge (a .whole), a .rises, then-fine, a .days, answer-fine, ← (a .count))
+    rw (is-ge (a .size), is-true (a .named), is-ge (a .whole), then-fine _ refl (a .rises), a .days, answer-fine, ← (a .count))
 
 -- the k-th of the days of an accepted file
 pub day-there : (f : List ℕ) (k p i : ℕ) → daysFrom k f p ≡ Verdict.Fine → i < k → dayVerdict f (p + 12 * i) ≡ Verdict.Fine

@@ -1,7 +1,8 @@
 // Reading a Calendar file: head, table, then each day's block and list. One pass, linear in what they hold.
 ghost use mathlib.Core.Path.{_≡_};
 ghost use Prim.Native.Nat.{_+_};
-ghost use Rattle.calendar.specs.Reader.{tableFrom, blockOk, dayVerdict, daysFrom, andThen, answered, calendarOf};
+ghost use Rattle.prelude.specs.Verdicts.{andThen};
+ghost use Rattle.calendar.specs.Reader.{tableFrom, blockOk, dayVerdict, daysFrom, answered, calendarOf};
 ghost use Rattle.calendar.specs.ReaderLaws.{WholeTable, InTable};
 use crate::head::count_of;
 use crate::head::is_calendar;

@@ -6,3 +6,5 @@ pub mod RecordArguments
 pub mod WriterStates
 pub mod PageAnswers
 pub mod CalendarAnswers
+pub mod ChainAnswers
+pub mod ChainAnswerLaws

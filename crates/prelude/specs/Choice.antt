@@ -103,6 +103,12 @@ unfolding ifB
 b-elim P true x y f g = f refl
 b-elim P false x y f g = g refl
 
+-- A choice by the truth of a test is one by the test.
+pub lt-choice : {X : Type 0} (a b : ℕ) (x y : X) → ifB (ifLt a b true false) x y ≡ ifLt a b x y
+lt-choice a b x y =
+    lt-elim (λ z. ifB z x y ≡ ifLt a b x y) a b true false
+    (λ h. is-true refl _ _ ∙ sym (is-lt h _ _)) (λ h. is-false refl _ _ ∙ sym (is-ge h _ _))
+
 -- A choice that is r, whose first arm is not: the test failed, and the second arm is r.
 pub lt-skip : {X : Type 0} (a b : ℕ) (x y : X) {r : X} → (x ≡ r → ⊥) → ifLt a b x y ≡ r → (b ≤ a) × (y ≡ r)
 lt-skip a b x y {r} n =

@@ -1,4 +1,4 @@
--- Document 01, "The numbers given on refusal": each number under a name, in the paper's order.
+-- Document 01, "The numbers given on refusal", and the requests' numbers: each under a name, in the papers' order.
 -- Assumes nothing.
 use Prim.Native.Nat.{ℕ}
 use mathlib.Core.Path.{_≡_}
@@ -82,7 +82,25 @@ badBlock = 23
 abbrev pub badAppointment : ℕ
 badAppointment = 24
 
--- the refusal of that number at that byte place
+-- 30 to 33 are R-2's, in its words; their places are numbers of entries and records, from 0
+
+-- 30: array sizes
+abbrev pub badArrays : ℕ
+badArrays = 30
+
+-- 31: an entry that is cut short, breaks the rise of dates, has 65,535 before the last, or is last without it
+abbrev pub badDayTable : ℕ
+badDayTable = 31
+
+-- 32: a head that is bad or an earlier entry's; a next out of range or not named back
+abbrev pub badChain : ℕ
+badChain = 32
+
+-- 33: a reached record with a kind over 2, an appointment minute over 1,439, or out of order
+abbrev pub badChainOrder : ℕ
+badChainOrder = 33
+
+-- the refusal of that number at that place
 abbrev pub refusalAt : ℕ → ℕ → Refusal
 refusalAt n p = record { number = n; place = p }
 

@@ -1,4 +1,4 @@
-// Document 01's refusals: each a number with a byte place, 0 where no file byte is meant.
+// The papers' refusals: each a number with a place, 0 where none is meant. It is a byte's; from 30 on an entry's or a record's.
 pub const BOOK_TOO_LONG: u32 = 1;
 
 pub const NOT_A_BOOK: u32 = 2;
@@ -36,6 +36,14 @@ pub const BAD_TABLE: u32 = 22;
 pub const BAD_BLOCK: u32 = 23;
 
 pub const BAD_APPOINTMENT: u32 = 24;
+
+pub const BAD_ARRAYS: u32 = 30;
+
+pub const BAD_DAY_TABLE: u32 = 31;
+
+pub const BAD_CHAIN: u32 = 32;
+
+pub const BAD_CHAIN_ORDER: u32 = 33;
 
 pub struct Refusal {
     pub number: u32,

@@ -56,7 +56,7 @@ impl File {
             }
         }
         if rng.one_in(2) {
-            shuffle(&mut groups, rng);
+            rng.shuffle(&mut groups);
         }
         let mut file = File::without_blocks(days, rng);
         for group in groups {
@@ -160,11 +160,5 @@ impl File {
 
     pub fn put_word(&mut self, at: usize, value: usize) {
         self.bytes[at..at + 2].copy_from_slice(&(value as u16).to_le_bytes());
-    }
-}
-
-fn shuffle<T>(items: &mut [T], rng: &mut Rng) {
-    for at in 1..items.len() {
-        items.swap(at, rng.within(0..=at));
     }
 }

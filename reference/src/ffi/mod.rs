@@ -19,6 +19,7 @@ macro_rules! answer_of_result {
 
 pub mod book;
 pub mod calendar;
+pub mod chains;
 pub mod days;
 pub mod export;
 pub mod pages;

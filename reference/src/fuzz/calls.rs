@@ -2,7 +2,7 @@
 
 use super::look::Look;
 use super::memory::{crashes_show, Pages};
-use super::{dates, files, numbers, writing, Tally};
+use super::{chains, dates, files, numbers, writing, Tally};
 use crate::ffi::pages::CountAnswer;
 use crate::pages::ShortMonth;
 use crate::rng::Rng;
@@ -17,6 +17,8 @@ pub struct Fuzz {
     pub buffer: Pages,
     pub text: Pages,
     pub note: Pages,
+    /// For the four arrays of day chains.
+    pub arrays: [Pages; 4],
     /// Room for any export.
     most: Vec<u8>,
 }
@@ -24,8 +26,9 @@ pub struct Fuzz {
 impl Fuzz {
     pub fn new() -> Self {
         let [file, buffer, text, note] = [0; 4].map(|_| Pages::new());
+        let arrays = [0; 4].map(|_| Pages::new());
         let most = vec![0; calendar::LONGEST];
-        Fuzz { tally: Tally::default(), seed: 0, rng: Rng::new(0), file, buffer, text, note, most }
+        Fuzz { tally: Tally::default(), seed: 0, rng: Rng::new(0), file, buffer, text, note, arrays, most }
     }
 
     /// One of each call at least.
@@ -39,6 +42,7 @@ impl Fuzz {
         self.with_book(if swapped { &calendar } else { &book });
         self.with_calendar(if swapped { &book } else { &calendar });
         writing::round(self);
+        chains::round(self);
     }
 
     fn with_book(&mut self, bytes: &[u8]) {
@@ -46,10 +50,10 @@ impl Fuzz {
         tally.bytes += bytes.len() as u64;
         let lent = file.lend(bytes, true, rng);
         let mut look = Look { tally, seed: *seed, input: bytes };
-        reading(&mut look, lent.bytes(), rng);
-        showing(&mut look, lent.bytes(), rng);
-        printing(&mut look, lent.bytes(), buffer, rng);
-        exporting(&mut look, lent.bytes(), buffer, most, rng);
+        reading(&mut look, lent.items(), rng);
+        showing(&mut look, lent.items(), rng);
+        printing(&mut look, lent.items(), buffer, rng);
+        exporting(&mut look, lent.items(), buffer, most, rng);
         assert!(lent.is(bytes), "seed {seed}: a call changed the book");
     }
 
@@ -58,7 +62,7 @@ impl Fuzz {
         tally.bytes += bytes.len() as u64;
         let lent = file.lend(bytes, true, rng);
         let mut look = Look { tally, seed: *seed, input: bytes };
-        opening(&mut look, lent.bytes(), rng);
+        opening(&mut look, lent.items(), rng);
         assert!(lent.is(bytes), "seed {seed}: a call changed the Calendar file");
     }
 }
@@ -145,7 +149,7 @@ fn written(
     let mut expected = before.to_vec();
     let plain = by[1](&mut expected);
     let mut lent = buffer.lend(before, false, rng);
-    let proved = by[0](lent.bytes_mut());
+    let proved = by[0](lent.items_mut());
     look.same(call, proved, plain);
     if !lent.is(&expected) {
         look.fail(&format!("{call}: another buffer of {} bytes, or bytes beside it changed", before.len()));

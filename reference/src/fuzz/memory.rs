@@ -1,6 +1,6 @@
-//! Bytes to lend, each time in one of four places: on the heap with just its length, so that memcheck sees every byte
-//! beside it; between margins that are looked at afterwards; and at the end or the beginning of pages beside which
-//! nothing is mapped, so that a byte read or written there ends the run. Files may not be written to either.
+//! Bytes or numbers to lend, each time in one of four places: on the heap with just its length, so that memcheck sees
+//! every byte beside it; between margins that are looked at afterwards; and at the end or the beginning of pages beside
+//! which nothing is mapped, so that a byte read or written there ends the run. Files may not be written to either.
 
 use crate::rng::Rng;
 use crate::writings::{pattern, MARGIN};
@@ -55,15 +55,27 @@ pub struct Pages {
     at: *mut u8,
 }
 
-enum Place<'a> {
-    Heap(Box<[u8]>),
-    Margins(Vec<u8>),
+/// What can be lent.
+pub trait Item: Copy + Eq + From<u8> {}
+
+impl Item for u8 {}
+impl Item for u16 {}
+
+enum Place<'a, T> {
+    Heap(Box<[T]>),
+    Margins(Vec<T>),
+    /// And the place of the first item in them, in bytes.
     Pages(&'a mut Pages, usize),
 }
 
-pub struct Lent<'a> {
-    place: Place<'a>,
+pub struct Lent<'a, T> {
+    place: Place<'a, T>,
     length: usize,
+}
+
+/// So many items and the margins around them.
+fn with_margins<T: Item>(length: usize) -> Vec<T> {
+    pattern(length).into_iter().map(T::from).collect()
 }
 
 impl Pages {
@@ -83,22 +95,23 @@ impl Pages {
         assert_eq!(answer, 0, "mprotect");
     }
 
-    /// Lends a copy of the bytes. The call that it is lent to may not write to it where it is a file.
-    pub fn lend(&mut self, bytes: &[u8], file: bool, rng: &mut Rng) -> Lent<'_> {
-        let length = bytes.len();
+    /// Lends a copy of the items. The call that it is lent to may not write to it where it is a file.
+    pub fn lend<T: Item>(&mut self, items: &[T], file: bool, rng: &mut Rng) -> Lent<'_, T> {
+        let length = items.len();
         let place = match rng.below(4) {
-            0 => Place::Heap(bytes.into()),
+            0 => Place::Heap(items.into()),
             1 => {
-                let mut margins = pattern(length);
-                margins[MARGIN..MARGIN + length].copy_from_slice(bytes);
+                let mut margins = with_margins(length);
+                margins[MARGIN..MARGIN + length].copy_from_slice(items);
                 Place::Margins(margins)
             }
-            _ if length > ROOM => Place::Heap(bytes.into()),
+            _ if size_of_val(items) > ROOM => Place::Heap(items.into()),
             side => {
-                let start = if side == 2 { 0 } else { ROOM - length };
+                let start = if side == 2 { 0 } else { ROOM - size_of_val(items) };
                 self.protect(READ_AND_WRITE);
-                // SAFETY: so many bytes are mapped there, to be written, and lent to no one.
-                unsafe { slice::from_raw_parts_mut(self.at.add(start), length) }.copy_from_slice(bytes);
+                // SAFETY: so many are mapped there, to be written, and lent to no one.
+                unsafe { slice::from_raw_parts_mut(self.at.add(start).cast(), length) }
+                    .copy_from_slice(items);
                 if file {
                     self.protect(READ);
                 }
@@ -109,38 +122,40 @@ impl Pages {
     }
 }
 
-impl Lent<'_> {
-    pub fn bytes(&self) -> &[u8] {
+impl<T: Item> Lent<'_, T> {
+    pub fn items(&self) -> &[T] {
         match &self.place {
-            Place::Heap(bytes) => bytes,
-            Place::Margins(bytes) => &bytes[MARGIN..MARGIN + self.length],
+            Place::Heap(items) => items,
+            Place::Margins(items) => &items[MARGIN..MARGIN + self.length],
             // SAFETY: mapped, and borrowed as long as this is.
-            Place::Pages(pages, start) => unsafe { slice::from_raw_parts(pages.at.add(*start), self.length) },
-        }
-    }
-
-    /// Not of a file.
-    pub fn bytes_mut(&mut self) -> &mut [u8] {
-        match &mut self.place {
-            Place::Heap(bytes) => bytes,
-            Place::Margins(bytes) => &mut bytes[MARGIN..MARGIN + self.length],
-            // SAFETY: mapped, to be written, and borrowed as long as this is.
             Place::Pages(pages, start) => unsafe {
-                slice::from_raw_parts_mut(pages.at.add(*start), self.length)
+                slice::from_raw_parts(pages.at.add(*start).cast(), self.length)
             },
         }
     }
 
-    /// Whether the bytes are these, and those around as they were.
-    pub fn is(&self, bytes: &[u8]) -> bool {
+    /// Not of a file.
+    pub fn items_mut(&mut self) -> &mut [T] {
+        match &mut self.place {
+            Place::Heap(items) => items,
+            Place::Margins(items) => &mut items[MARGIN..MARGIN + self.length],
+            // SAFETY: mapped, to be written, and borrowed as long as this is.
+            Place::Pages(pages, start) => unsafe {
+                slice::from_raw_parts_mut(pages.at.add(*start).cast(), self.length)
+            },
+        }
+    }
+
+    /// Whether the items are these, and those around as they were.
+    pub fn is(&self, items: &[T]) -> bool {
         let around = match &self.place {
             Place::Margins(all) => {
-                let before = pattern(self.length);
+                let before = with_margins(self.length);
                 let behind = MARGIN + self.length;
                 all[..MARGIN] == before[..MARGIN] && all[behind..] == before[behind..]
             }
             _ => true,
         };
-        around && self.bytes() == bytes
+        around && self.items() == items
     }
 }

@@ -38,11 +38,11 @@ fn make(fuzz: &mut Fuzz, call: Call, state: WriterAnswer, bytes: &mut Vec<u8>) -
         Call::Open(settings, _) => {
             let by_plain = plain::open(settings.settings(), bytes);
             let by_plain = WriterAnswer::new(by_plain, Writer::default());
-            ("open", proved::open(settings, lent.bytes_mut()), by_plain)
+            ("open", proved::open(settings, lent.items_mut()), by_plain)
         }
         Call::Close => {
             let by_plain = WriterAnswer::new(plain::close(state.state(), bytes), state.state());
-            ("close", proved::close(state, lent.bytes_mut()), by_plain)
+            ("close", proved::close(state, lent.items_mut()), by_plain)
         }
         Call::Add(item) => {
             let Item { record, text: text_bytes, note: note_bytes, .. } = *item;
@@ -50,7 +50,7 @@ fn make(fuzz: &mut Fuzz, call: Call, state: WriterAnswer, bytes: &mut Vec<u8>) -
                 NewRecord { flag: record.flag, entry: record.entry(), text: &text_bytes, note: &note_bytes };
             let by_plain = WriterAnswer::new(plain::add(state.state(), bytes, new), state.state());
             let (text, note) = (text.lend(&text_bytes, true, rng), note.lend(&note_bytes, true, rng));
-            let by_proved = proved::add(state, lent.bytes_mut(), record, text.bytes(), note.bytes());
+            let by_proved = proved::add(state, lent.items_mut(), record, text.items(), note.items());
             assert!(text.is(&text_bytes) && note.is(&note_bytes), "seed {seed}: add changed text or note");
             ("add", by_proved, by_plain)
         }

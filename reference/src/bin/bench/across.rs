@@ -1,15 +1,17 @@
 //! Small calls once more, with the reference behind the same C interface (answers as structs, bytes as a pointer and a
 //! length) and, as the other way, called from Rust: all three by one loop, so that only the interface differs.
 
+use super::chains::several_days;
 use super::writings::{lent, SETTINGS};
 use super::{again, hidden, kept, row, Cells, Row};
 use reference::across_c::*;
+use reference::day_chains::DayChains;
 use reference::ffi::book::{BookAnswer, RecordAnswer};
 use reference::ffi::calendar::DescriptorAnswer;
 use reference::ffi::days::DayAnswer;
 use reference::ffi::pages::CountAnswer;
 use reference::ffi::writer::WriterAnswer;
-use reference::ffi::{book, calendar, days, writer};
+use reference::ffi::{book, calendar, chains, days, writer};
 use reference::vectors::calendars::whole_case;
 use reference::vectors::WHOLE_CASE;
 use std::hint::black_box;
@@ -76,6 +78,24 @@ fn on_files() -> Vec<Row> {
     ]
 }
 
+fn on_chains() -> Vec<Row> {
+    let by_plain = black_box(check_chains as chains::CheckChains);
+    let across = move |lent: &DayChains| {
+        // SAFETY: it only reads what it is lent.
+        lent.lent_to(|table, previous, next, kinds, minutes| unsafe {
+            chains::lent_to(by_plain, table, [previous, next, kinds, minutes])
+        })
+    };
+    let proved = |lent: &DayChains| lent.lent_to(chains::check_chains);
+    let from_rust = |lent: &DayChains| lent.lent_to(reference::chains::check_chains);
+    let none: fn() -> &'static DayChains = || kept(several_days(0, 0));
+    let one: fn() -> &'static DayChains = || kept(several_days(1, 1));
+    vec![
+        each("check_chains", "no record, both across C", none, proved, across, from_rust),
+        each("check_chains", "1 record, both across C", one, proved, across, from_rust),
+    ]
+}
+
 fn on_buffers() -> Vec<Row> {
     let opening = black_box(open as unsafe extern "C" fn(BookAnswer, *mut u8, usize) -> WriterAnswer);
     let closing = black_box(close as unsafe extern "C" fn(WriterAnswer, *mut u8, usize) -> WriterAnswer);
@@ -100,5 +120,5 @@ fn on_buffers() -> Vec<Row> {
 }
 
 pub fn rows() -> Vec<Row> {
-    [on_days(), on_files(), on_buffers()].into_iter().flatten().collect()
+    [on_days(), on_files(), on_chains(), on_buffers()].into_iter().flatten().collect()
 }

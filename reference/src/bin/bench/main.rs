@@ -7,6 +7,7 @@
 mod across;
 mod books;
 mod calendars;
+mod chains;
 mod days;
 mod exports;
 mod pages;
@@ -44,8 +45,16 @@ fn row(call: &'static str, case: &'static str, calls: usize, make: impl Fn() -> 
     Row { call, case, calls, make: Box::new(make) }
 }
 
-const GROUPS: &[fn() -> Vec<Row>] =
-    &[days::rows, books::rows, writings::rows, pages::rows, calendars::rows, exports::rows, across::rows];
+const GROUPS: &[fn() -> Vec<Row>] = &[
+    days::rows,
+    books::rows,
+    writings::rows,
+    pages::rows,
+    calendars::rows,
+    exports::rows,
+    chains::rows,
+    across::rows,
+];
 
 fn kept<T>(value: T) -> &'static T {
     Box::leak(Box::new(value))

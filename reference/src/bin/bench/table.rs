@@ -83,7 +83,7 @@ const LEGEND: [&str; 5] = [
     "other way: a further way to the same answer, where there is one in this folder: closed formulas for days and dates, and for searches and exports jumps from one occurrence to the next. It is no limit.",
     "ratio: proved / reference; the goal is at or below 1. A hyphen: there is no such call, or no valgrind to count it.",
     "instructions are counted by callgrind; nanoseconds are the quickest of 30 passes.",
-    "per: instructions of the proved call by what it goes through: bytes of the file, its records, days looked at, bytes written.",
+    "per: instructions of the proved call by what it goes through: bytes of the file, its records or those of day chains, days looked at, bytes written.",
 ];
 
 pub fn legend(style: Style) -> String {

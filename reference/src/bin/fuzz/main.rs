@@ -2,10 +2,11 @@
 //! library and to the proved program, half of the time each, compares all answers with the reference, and prints how
 //! many there were of each number. A difference ends it, with the seed that shows it again.
 //!
-//! `... -- files FOLDER COUNT [SEED]` writes hostile files, for other hosts.
+//! `... -- files FOLDER COUNT [SEED]` writes hostile files, for other hosts: books, Calendar files, packed day chains.
 
+use reference::day_chains::packed;
 use reference::fuzz::calls::Fuzz;
-use reference::fuzz::{files, program, Tally};
+use reference::fuzz::{chains, files, program, Tally};
 use reference::rng::Rng;
 use std::path::{Path, PathBuf};
 use std::time::{Duration, Instant};
@@ -54,7 +55,11 @@ fn write_files(folder: &str, count: u64, seed: u64) {
     fs::create_dir_all(folder).expect("a folder");
     for number in 0..count {
         let mut rng = Rng::new(seed.wrapping_add(number));
-        let file = if number % 2 == 0 { files::book(&mut rng) } else { files::calendar(&mut rng) };
+        let file = match number % 3 {
+            0 => files::book(&mut rng),
+            1 => files::calendar(&mut rng),
+            _ => packed(&chains::any_chains(&mut rng)),
+        };
         fs::write(Path::new(folder).join(format!("{number:06}")), file).expect("a file");
     }
 }

@@ -3,8 +3,10 @@
 use super::Axis;
 use reference::books::{small, Draft, Field, File};
 use reference::callgrind::Run;
+use reference::chains::APPOINTMENT;
 use reference::civil;
-use reference::ffi::{book, export, pages};
+use reference::day_chains::of_one_kind;
+use reference::ffi::{book, chains, export, pages};
 use reference::pages::ShortMonth::Skip;
 use reference::rng::Rng;
 use reference::{book as plain_book, calendar};
@@ -56,12 +58,16 @@ fn spread_evenly(records: usize) -> Vec<u8> {
     spread(records, FIRST + SPAN - 1)
 }
 
-fn again<O>(file: Vec<u8>, call: impl Fn(&[u8]) -> O + 'static) -> Run {
+fn repeated<I: 'static, O>(input: I, call: impl Fn(&I) -> O + 'static) -> Run {
     Box::new(move |count| {
         for _ in 0..count {
-            black_box(call(black_box(&file)));
+            black_box(call(black_box(&input)));
         }
     })
+}
+
+fn again<O>(file: Vec<u8>, call: impl Fn(&[u8]) -> O + 'static) -> Run {
+    repeated(file, move |file| call(file))
 }
 
 fn lent<O>(file: Vec<u8>, call: impl Fn(&[u8], &mut [u8]) -> O + 'static) -> Run {
@@ -95,6 +101,13 @@ fn page_by_page(file: Vec<u8>, days: usize) -> Run {
     })
 }
 
+/// Appointments in chains of eight.
+fn checking(records: usize) -> Run {
+    let days = records / 8;
+    let lent = of_one_kind(APPOINTMENT, &vec![8; days], &mut Rng::new(1));
+    repeated(lent, move |lent| assert_eq!(lent.lent_to(chains::check_chains).count, days))
+}
+
 pub const CURVES: &[Curve] = &[
     Curve {
         name: "read the book",
@@ -126,6 +139,7 @@ pub const CURVES: &[Curve] = &[
         axis: Axis::Records,
         make: |records| exporting(spread_evenly(records), SPAN.into()),
     },
+    Curve { name: "day chains of eight", axis: Axis::Records, make: checking },
     Curve { name: "next, of 1 record", axis: Axis::Days, make: |days| searching(1, days) },
     Curve { name: "next, of 1,024", axis: Axis::Days, make: |days| searching(BOOK, days) },
     Curve { name: "export", axis: Axis::Days, make: |days| exporting(spread_evenly(BOOK), days) },

@@ -1,5 +1,5 @@
-//! `cargo run --release --bin growth [FILE]` counts what calls of the proved library cost as books and spans of days
-//! grow, prints a table in Markdown, and draws `docs/growth.svg` or the file that is named.
+//! `cargo run --release --bin growth [FILE]` counts what calls of the proved library cost as books, spans of days and
+//! day chains grow, prints a table in Markdown, and draws `docs/growth.svg` or the file that is named.
 
 mod curves;
 mod svg;

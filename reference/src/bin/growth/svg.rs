@@ -9,7 +9,7 @@ const TOP: f64 = 64.0;
 const BOTTOM: f64 = 490.0;
 /// Left and right edges of the two.
 const PANELS: [(Axis, f64, f64); 2] = [(Axis::Records, 80.0, 420.0), (Axis::Days, 730.0, 1_070.0)];
-const COLOURS: [&str; 6] = ["#0072b2", "#e69f00", "#009e73", "#d55e00", "#cc79a7", "#333333"];
+const COLOURS: [&str; 7] = ["#0072b2", "#e69f00", "#009e73", "#d55e00", "#cc79a7", "#333333", "#56b4e9"];
 const LABELS_APART: f64 = 19.0;
 
 /// Maps a range to places by its logarithm.
@@ -38,7 +38,7 @@ pub fn picture(drawn: &[Drawn]) -> String {
     let mut svg = format!(
         "<svg xmlns=\"http://www.w3.org/2000/svg\" viewBox=\"0 0 {WIDTH} {HEIGHT}\" width=\"{WIDTH}\" height=\"{HEIGHT}\" \
          font-family=\"sans-serif\" font-size=\"14\" fill=\"#222\">\n\
-         <title>What calls of the proved library cost as books and spans grow</title>\n\
+         <title>What calls of the proved library cost as books, spans and day chains grow</title>\n\
          <rect width=\"{WIDTH}\" height=\"{HEIGHT}\" fill=\"#fff\"/>\n"
     );
     let costs = costs(drawn);
@@ -66,7 +66,7 @@ fn line(svg: &mut String, from: (f64, f64), to: (f64, f64), more: &str) {
 
 fn grid(svg: &mut String, axis: Axis, across: &Scale, costs: &Scale) {
     let (title, below) = match axis {
-        Axis::Records => ("against the records of the book", "records, doubling"),
+        Axis::Records => ("against records, of the book or in day chains", "records, doubling"),
         Axis::Days => ("against days, in a book of 1,024 records or of 1", "days, doubling"),
     };
     let middle = (across.at + across.until) / 2.0;

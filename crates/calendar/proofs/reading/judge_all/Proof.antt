@@ -1,9 +1,7 @@
 -- `judge_all` meets its contract: each arm is a clause of its definition.
 -- Assumes nothing.
-use mathlib.Core.Path.{sym, _∙_, ap}
-use Rattle.prelude.specs.declared.refusals.Verdict.{Verdict}
-use Rattle.calendar.specs.Reader.{daysFrom, andThen}
-use Rattle.calendar.specs.ReaderLaws.{then-fine, then-refused}
+use mathlib.Core.Path.{sym, _∙_}
+use Rattle.prelude.specs.Verdicts.{then-fine, then-refused}
 use borrow.Author.Needs.{needs}
 use Rattle.calendar.proofs.reading.judge_all.Statement.{statement}
 use Rattle.calendar.proofs.reading.judge_all.Tie as tie
@@ -21,16 +19,10 @@ enum-known-v : tie.Need-enum-known-v
 enum-known-v c = search needs
 
 returns : tie.Need-returns
-returns c =
-    let a = c .before .before .before .before .before .args in
-    let w = daysFrom (a .count) (a .file .now) 64 in
-    c .judge-days .ensures ∙ sym (ap (λ (v : Verdict). andThen v w) (sym (c .before .before .before .judge-table .ensures) ∙ c .before .enum-told .given .1) ∙ then-fine w)
+returns c = c .judge-days .ensures ∙ sym (then-fine _ (c .before .before .before .judge-table .ensures) (c .before .enum-told .given .1))
 
 returns-2 : tie.Need-returns-2
-returns-2 c =
-    let a = c .before .before .before .before .before .args in
-    let w = daysFrom (a .count) (a .file .now) 64 in
-    sym (ap (λ (v : Verdict). andThen v w) (sym (c .before .before .before .judge-table .ensures) ∙ c .before .v .given .1) ∙ then-refused _ w)
+returns-2 c = sym (then-refused _ (c .before .before .before .judge-table .ensures) (c .before .v .given .1))
 
 pub judge-all-spec : {M : Type 1} → statement M
 judge-all-spec =

@@ -3,7 +3,8 @@
 use Prim.Native.Nat.{ℕ}
 use mathlib.Core.Path.{refl, sym, _∙_, ap}
 use Rattle.prelude.specs.Choice.{lt-yes, lt-no, by-yes, by-no}
-use Rattle.calendar.specs.Reader.{tableFrom, daysFrom, andThen, answered, calendarOf}
+use Rattle.prelude.specs.Verdicts.{andThen}
+use Rattle.calendar.specs.Reader.{tableFrom, daysFrom, answered, calendarOf}
 use Rattle.calendar.specs.ReaderLaws.{head-long}
 use native.Mathlib.Omega.{arith}
 use borrow.Author.Needs.{needs}

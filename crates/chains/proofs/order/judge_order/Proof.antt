@@ -1,0 +1,63 @@
+-- `judge_order` meets its contract. The loop keeps: the chains are ordered as those from entry i on.
+-- Assumes nothing.
+use Prim.Native.Nat.{_-_, _≤_}
+use mathlib.Core.Path.{_≡_, sym, _∙_}
+use native.Mathlib.Omega.{arith}
+use borrow.Author.Needs.{needs}
+use Rattle.prelude.specs.Verdicts.{inTurn, turn-start, turn-fine, turn-refused, turn-none}
+use Rattle.chains.specs.Chains.{orderVerdict}
+use Rattle.chains.proofs.order.judge_order.Statement.{statement}
+use Rattle.chains.proofs.order.judge_order.Tie as tie
+
+abbrev Inv-loop : tie.InvT-loop
+Inv-loop table days next kinds minutes i₀ i = (i ≤ days) × (inTurn (orderVerdict table next kinds minutes) days 0 ≡ inTurn (orderVerdict table next kinds minutes) (days - i) i)
+
+abbrev μ-loop : tie.MeasureT-loop
+μ-loop table days next kinds minutes i₀ i = days - i
+
+loop-holds : tie.Need-loop-holds Inv-loop μ-loop
+loop-holds c = (omega arith, turn-start _ _)
+
+head-at-requires : tie.Need-head-at-requires Inv-loop μ-loop
+head-at-requires c κs = omega arith
+
+judge-chain-requires : tie.Need-judge-chain-requires Inv-loop μ-loop
+judge-chain-requires c κs = ((omega arith, omega arith), rw (c .head-at .ensures) (c .before .before .before .before .before .before .before .pre .1 .1 (c .before .before .loop .i) (omega arith)))
+
+enum-told : tie.Need-enum-told Inv-loop μ-loop
+enum-told c = search needs
+
+add-i : tie.Need-add-i Inv-loop μ-loop
+add-i c = omega arith
+
+loop-less : tie.Need-loop-less Inv-loop μ-loop
+loop-less c = omega arith
+
+loop-again : tie.Need-loop-again Inv-loop μ-loop
+loop-again c = (omega arith, c .before .before .before .before .before .loop .inv .1 ∙ turn-fine _ _ _ (omega arith) (rw (c .before .before .before .head-at .ensures) at (c .before .before .judge-chain .ensures)) (c .enum-told .given .1))
+
+enum-known-e : tie.Need-enum-known-e Inv-loop μ-loop
+enum-known-e c = search needs
+
+returns : tie.Need-returns Inv-loop μ-loop
+returns c = sym (c .before .before .before .before .before .before .loop .inv .1 ∙ turn-refused _ _ _ (omega arith) (rw (c .before .before .before .before .head-at .ensures) at (c .before .before .before .judge-chain .ensures)) (c .before .e .given .1))
+
+returns-2 : tie.Need-returns-2 Inv-loop μ-loop
+returns-2 c = sym (c .before .loop .inv .1 ∙ turn-none _ _ _ (omega arith))
+
+pub judge-order-spec : {M : Type 1} → statement M
+judge-order-spec =
+    tie.close
+    (tie.spec
+    Inv-loop
+    μ-loop
+    loop-holds
+    head-at-requires
+    judge-chain-requires
+    enum-told
+    add-i
+    loop-less
+    loop-again
+    enum-known-e
+    returns
+    returns-2)
