@@ -6,11 +6,12 @@ mod plans;
 
 use crate::books::letters;
 use crate::calendar::{IDENTIFICATION, LONGEST};
+use crate::damages::Damages;
 use crate::days::LAST_DAY;
 use crate::rng::Rng;
-pub use damage::{damages, Damage, Part};
+pub use damage::{damages, Apply, Damage, Part};
 pub use plans::{Appointment, Day, File, Place};
-use std::collections::{BTreeMap, BTreeSet};
+use std::collections::BTreeSet;
 
 pub struct Case {
     pub name: &'static str,
@@ -23,7 +24,7 @@ pub struct Case {
 /// that are too long.
 pub struct Cases {
     rng: Rng,
-    damages: Vec<Damage>,
+    damages: Damages<Part, Apply>,
 }
 
 impl Iterator for Cases {
@@ -43,26 +44,16 @@ impl Iterator for Cases {
 
 impl Cases {
     pub fn new(rng: Rng) -> Self {
-        Cases { rng, damages: damages() }
+        Cases { rng, damages: Damages { all: damages(), seldom: (Part::Length, 20) } }
     }
 
     fn right(&mut self) -> Case {
         Case { name: "right", file: right(&mut self.rng).bytes, answer: Some((0, 0)) }
     }
 
-    /// A damage, but one that makes a file too long only seldom.
-    fn damage(&mut self) -> &Damage {
-        loop {
-            let number = self.rng.within(0..=self.damages.len() - 1);
-            if self.damages[number].part != Part::Length || self.rng.one_in(20) {
-                return &self.damages[number];
-            }
-        }
-    }
-
     fn damaged(&mut self) -> Case {
         let (mut file, day) = busy(true, &mut self.rng);
-        let &Damage { name, number, apply, .. } = self.damage();
+        let &Damage { name, number, apply, .. } = self.damages.one(&mut self.rng);
         let place = apply(&mut file, day, &mut self.rng);
         Case { name, file: file.bytes, answer: Some((number, place)) }
     }
@@ -70,13 +61,8 @@ impl Cases {
     /// Up to three parts are damaged: the first of them counts.
     fn damaged_often(&mut self) -> Case {
         let (mut file, day) = busy(true, &mut self.rng);
-        let mut some = BTreeMap::new();
-        for _ in 0..3 {
-            let &Damage { number, part, apply, .. } = self.damage();
-            some.insert(part, (number, apply));
-        }
         let mut answer = None;
-        for (number, apply) in some.into_values().rev() {
+        for (number, apply) in self.damages.some(&mut self.rng) {
             answer = Some((number, apply(&mut file, day, &mut self.rng)));
         }
         Case { name: "damaged often", file: file.bytes, answer }

@@ -7,13 +7,13 @@ mod plans;
 mod small;
 
 use crate::chains::{ENTRY, MOST_RECORDS, NONE};
+use crate::damages::Damages;
 use crate::refusal::Refusal;
 use crate::rng::Rng;
-pub use damage::{damages, Damage, Part};
+pub use damage::{damages, Apply, Damage, Part};
 pub use lent::{packed, unpacked, DayChains};
 pub use plans::{any_number, of_one_kind, Plan};
 pub use small::{each_of_two, each_order, each_shape};
-use std::collections::BTreeMap;
 
 /// At which something may change.
 pub const EDGES: [usize; 8] = [1, 255, 256, 257, 2_048, 2_049, MOST_RECORDS - 1, MOST_RECORDS];
@@ -28,7 +28,7 @@ pub struct Case {
 /// Right and damaged ones in turn, without an end. Most have few records.
 pub struct Cases {
     rng: Rng,
-    damages: Vec<Damage>,
+    damages: Damages<Part, Apply>,
 }
 
 impl Iterator for Cases {
@@ -48,7 +48,7 @@ impl Iterator for Cases {
 
 impl Cases {
     pub fn new(rng: Rng) -> Self {
-        Cases { rng, damages: damages() }
+        Cases { rng, damages: Damages { all: damages(), seldom: (Part::Arrays, 4) } }
     }
 
     fn right(&mut self) -> Case {
@@ -56,19 +56,9 @@ impl Cases {
         Case { name: "right", lent, answer: Some(Ok(days.len())) }
     }
 
-    /// A damage, but one of the arrays' lengths only seldom.
-    fn damage(&mut self) -> &Damage {
-        loop {
-            let number = self.rng.within(0..=self.damages.len() - 1);
-            if self.damages[number].part != Part::Arrays || self.rng.one_in(4) {
-                return &self.damages[number];
-            }
-        }
-    }
-
     fn damaged(&mut self) -> Case {
         let mut plan = busy(&mut self.rng);
-        let &Damage { name, number, apply, .. } = self.damage();
+        let &Damage { name, number, apply, .. } = self.damages.one(&mut self.rng);
         let place = apply(&mut plan, &mut self.rng);
         Case { name, lent: plan.lent, answer: Some(Err(Refusal { number, place })) }
     }
@@ -76,13 +66,8 @@ impl Cases {
     /// Up to three parts are damaged: the first of them counts.
     fn damaged_often(&mut self) -> Case {
         let mut plan = busy(&mut self.rng);
-        let mut some = BTreeMap::new();
-        for _ in 0..3 {
-            let &Damage { number, part, apply, .. } = self.damage();
-            some.insert(part, (number, apply));
-        }
         let mut answer = None;
-        for (number, apply) in some.into_values().rev() {
+        for (number, apply) in self.damages.some(&mut self.rng) {
             let place = apply(&mut plan, &mut self.rng);
             answer = Some(Err(Refusal { number, place }));
         }

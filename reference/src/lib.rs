@@ -1,12 +1,12 @@
 //! A second implementation of documents 01 and 02, written from the papers alone and as plainly as it can be,
 //! to be compared with the proved library.
 //!
-//! One module for each layer: `days` here is the plain one, `ffi::days` the proved one. Beside them:
-//! `vectors`, files written out by hand; `books`, `calendars` and `day_chains`, which make files and chains at random,
-//! and `writings`, which makes runs of writing calls; `cases`, which reads the open vectors; `calls`, the calls of both
-//! implementations; `civil` and `halving`, further ways to compute dates, `occurrences`, one to compute when a record
-//! falls, and `chain_rules`, one to judge day chains; `fuzz`, hostile inputs for every call and for the program;
-//! `callgrind`, which counts instructions.
+//! One module for each layer: `days` here is the plain one, `ffi::days` the proved one. Beside them: `vectors`, files
+//! written out by hand; `books`, `calendars` and `day_chains`, which make files and chains at random, `damages`, faults
+//! to be put into them, and `writings`, which makes runs of writing calls; `cases`, which reads the open vectors;
+//! `calls`, the calls of both implementations; `civil` and `halving`, further ways to compute dates, `occurrences`, one
+//! to compute when a record falls, and `chain_rules`, one to judge day chains; `fuzz`, hostile inputs for every call
+//! and for the program; `callgrind`, which counts instructions.
 
 pub mod across_c;
 pub mod book;
@@ -19,6 +19,7 @@ pub mod cases;
 pub mod chain_rules;
 pub mod chains;
 pub mod civil;
+pub mod damages;
 pub mod day_chains;
 pub mod days;
 pub mod export;

@@ -1,4 +1,4 @@
--- What is known after each stage of the judgement: sizes; heads that are records; links by which every chain ends.
+-- What is known after stages of the judgement: sizes; all stages passed; heads that are records; links by which every chain ends.
 -- Assumes nothing.
 use Prim.Native.Nat.{ℕ, _<_, _≤_}
 use mathlib.Core.Path.{_≡_}

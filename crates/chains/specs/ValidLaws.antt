@@ -16,6 +16,7 @@ use Rattle.chains.specs.Valid.{Valid}
 use Rattle.chains.specs.OrderLaws.{chain-sorted, sorted-chain}
 use Rattle.chains.specs.LinkedLaws.{accepted-passed, judged-linked, head-in, head-not, next-in}
 use Rattle.chains.specs.StageLaws.{passed-answer}
+use Rattle.chains.specs.WalkLaws.{next-none, next-back}
 use Rattle.chains.specs.declared.types.ChainsAnswer.{ChainsAnswer}
 
 -- an entry before the last, and the last
@@ -55,14 +56,14 @@ head-good t previous i h n = is-lt (h .0) _ _ ∙ is-eq (h .1) _ _ ∙ not-befor
 
 -- links
 next-good : (previous next : List ℕ) (r : ℕ) → ((fieldOf next r ≡ noRecord → ⊥) → (fieldOf next r < length previous) × (fieldOf previous (fieldOf next r) ≡ r)) → nextBad previous next r ≡ false
-unfolding nextBad
 next-good previous next r f =
-    eq-elim (λ b. b ≡ false) (fieldOf next r) noRecord _ _ (λ _. refl) (λ n. is-lt (f n .0) _ _ ∙ is-eq (f n .1) _ _)
+    eq-elim {X = Unit {0}} (λ _. nextBad previous next r ≡ false) (fieldOf next r) noRecord tt tt
+    (λ e. next-none previous next r e) (λ n. next-back previous next r (f n .0) (f n .1))
 
-links-fine : (previous next rs : List ℕ) → ((r : ℕ) → List·Memᴰ r rs → nextBad previous next r ≡ false) → linked previous next rs ≡ Verdict.Fine
+good-links : (previous next rs : List ℕ) → ((r : ℕ) → List·Memᴰ r rs → nextBad previous next r ≡ false) → linked previous next rs ≡ Verdict.Fine
 unfolding linked
-links-fine previous next [] f = refl
-links-fine previous next (r ∷ rs) f = is-false (f r (List·Memᴰ·head refl)) _ _ ∙ links-fine previous next rs (λ x m. f x (List·Memᴰ·tail m))
+good-links previous next [] f = refl
+good-links previous next (r ∷ rs) f = is-false (f r (List·Memᴰ·head refl)) _ _ ∙ good-links previous next rs (λ x m. f x (List·Memᴰ·tail m))
 
 module _ (t previous next kind minute : List ℕ) where
   passed-valid : Passed t previous next kind minute → Valid t previous next kind minute
@@ -102,7 +103,7 @@ module _ (t previous next kind minute : List ℕ) where
         some = omega (arith, v .whole);
         entry-fine = fine-all (entryVerdict t) (entries t) 0 (λ i a b. good-fine badDayTable i (entry i (omega arith)));
         head-fine = fine-all (headVerdict t previous) (days t) 0 (λ i a b. good-fine badChain i (head i (omega arith)));
-        links-fine = fine-all (linksVerdict t previous next) (days t) 0 (λ i a b. links-fine previous next (chainAt t next i) (λ r m. next-good previous next r (v .links i r (omega arith) m)));
+        links-fine = fine-all (linksVerdict t previous next) (days t) 0 (λ i a b. good-links previous next (chainAt t next i) (λ r m. next-good previous next r (v .links i r (omega arith) m)));
         order-fine = fine-all (orderVerdict t next kind minute) (days t) 0 (λ i a b. sorted-chain kind minute (chainAt t next i) (λ r m. v .values i r (omega arith) m) (v .order i (omega arith)));
       }
     where

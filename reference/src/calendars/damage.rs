@@ -3,6 +3,7 @@
 use super::blocks::{APPOINTMENTS, BLOCKS};
 use super::plans::File;
 use crate::calendar::LONGEST;
+use crate::damages::{self, of};
 use crate::rng::Rng;
 
 /// What a fault is about. Of two faults the one counts that stands first here; of two days' faults, the
@@ -16,22 +17,13 @@ pub enum Part {
     Day,
 }
 
-/// Damages a right file of which this day has two appointments or more and is not the first.
-/// Gives the place that it is then refused with.
-pub struct Damage {
-    pub name: &'static str,
-    pub number: u32,
-    pub part: Part,
-    pub apply: Apply,
-}
+pub type Damage = damages::Damage<Part, Apply>;
 
+/// Damages a right file of which this day has two appointments or more and is not the first.
 pub type Apply = fn(&mut File, usize, &mut Rng) -> usize;
 
 /// All there are.
 pub fn damages() -> Vec<Damage> {
-    let of = |number, part, rows: &[(&'static str, Apply)]| -> Vec<Damage> {
-        rows.iter().map(|&(name, apply)| Damage { name, number, part, apply }).collect()
-    };
     [
         of(20, Part::Length, LENGTHS),
         of(21, Part::Head, HEADS),

@@ -3,6 +3,7 @@
 use super::links::{LINKS, ORDER};
 use super::plans::Plan;
 use crate::chains::{ENTRY, MOST_RECORDS, NONE};
+use crate::damages::{self, of};
 use crate::rng::Rng;
 
 /// What a fault is about. Of two faults the one counts that stands first here.
@@ -15,22 +16,13 @@ pub enum Part {
     Order,
 }
 
-/// Damages right chains: two days or more, each with two records or more, and a record that is not reached.
-/// Gives the place that they are then refused with.
-pub struct Damage {
-    pub name: &'static str,
-    pub number: u32,
-    pub part: Part,
-    pub apply: Apply,
-}
+pub type Damage = damages::Damage<Part, Apply>;
 
+/// Damages right chains: two days or more, each with two records or more, and a record that is not reached.
 pub type Apply = fn(&mut Plan, &mut Rng) -> usize;
 
 /// All there are.
 pub fn damages() -> Vec<Damage> {
-    let of = |number, part, rows: &[(&'static str, Apply)]| -> Vec<Damage> {
-        rows.iter().map(|&(name, apply)| Damage { name, number, part, apply }).collect()
-    };
     [
         of(30, Part::Arrays, ARRAYS),
         of(31, Part::Table, TABLES),
