@@ -78,15 +78,22 @@ fn per_unit(line: &Line) -> String {
     }
 }
 
+/// Lines of at most 118 columns, so that they fit behind a mark.
 const LEGEND: [&str; 5] = [
-    "proved: the library. reference: the plain second implementation, in Rust, by the release build; in the rows \"both by halving\" its search in the table of month starts, by eleven halvings; in the rows \"both across C\" behind the same C interface, and there the other way is the reference called from Rust in the same loop.",
-    "other way: a further way to the same answer, where there is one in this folder: closed formulas for days and dates, and for searches and exports jumps from one occurrence to the next. It is no limit.",
+    "proved: the library. reference: the plain second implementation, in Rust, by the release build; in the rows \"both by\n\
+     halving\" its search in the table of month starts, by eleven halvings; in the rows \"both across C\" behind the same C\n\
+     interface, and there the other way is the reference called from Rust in the same loop.",
+    "other way: a further way to the same answer, where there is one in this folder: closed formulas for days and dates,\n\
+     and for searches and exports jumps from one occurrence to the next. It is no limit.",
     "ratio: proved / reference; the goal is at or below 1. A hyphen: there is no such call, or no valgrind to count it.",
     "instructions are counted by callgrind; nanoseconds are the quickest of 30 passes.",
-    "per: instructions of the proved call by what it goes through: bytes of the file, its records or those of day chains, days looked at, bytes written.",
+    "per: instructions of the proved call by what it goes through: bytes of the file, its records or those of day chains,\n\
+     days looked at, bytes written.",
 ];
 
 pub fn legend(style: Style) -> String {
-    let mark = if style == Style::Markdown { "- " } else { "" };
-    LEGEND.map(|line| format!("{mark}{line}\n")).concat()
+    match style {
+        Style::Plain => LEGEND.map(|item| format!("{item}\n")).concat(),
+        Style::Markdown => LEGEND.map(|item| format!("- {}\n", item.replace('\n', "\n  "))).concat(),
+    }
 }
