@@ -1,4 +1,4 @@
-//! The table as it is printed: plain, or in Markdown.
+//! The table as it is printed: plain, or as the Markdown of `docs/measured/bench.md`.
 
 #[derive(Clone, Copy, PartialEq, Eq)]
 pub enum Style {
@@ -15,6 +15,13 @@ pub struct Line {
     pub size: Option<(usize, &'static str)>,
 }
 
+const TITLE: &str = "\
+# What each call costs
+
+Written by `cargo run --release --offline --bin bench -- --markdown > ../docs/measured/bench.md`, in `reference/`. What
+it shows, and of which commit it is: `docs/SPEED.md`.
+";
+
 pub fn head(style: Style) -> String {
     let columns = ["proved", "reference", "other way", "ratio"];
     match style {
@@ -28,7 +35,7 @@ pub fn head(style: Style) -> String {
                 columns.map(|column| format!(" {column}, {unit} |")).concat().replace("ratio, ", "ratio of ")
             };
             format!(
-                "| call | case |{}{} instructions, proved, per |\n|---|---|{}",
+                "{TITLE}\n| call | case |{}{} instructions, proved, per |\n|---|---|{}",
                 of("instructions"),
                 of("ns"),
                 "--:|".repeat(9)

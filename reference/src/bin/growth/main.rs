@@ -1,5 +1,5 @@
 //! `cargo run --release --bin growth [FILE]` counts what calls of the proved library cost as books, spans of days and
-//! day chains grow, prints a table in Markdown, and draws `docs/growth.svg` or the file that is named.
+//! day chains grow, prints `docs/measured/growth.md`, and draws `docs/measured/growth.svg` or the file that is named.
 
 mod curves;
 mod svg;
@@ -56,7 +56,17 @@ fn draw(number: usize, curve: &Curve) -> Drawn {
     Drawn { name: curve.name, axis: curve.axis, points: curve.axis.sizes().iter().map(cost).collect() }
 }
 
+const TITLE: &str = "\
+# How costs grow
+
+Written by `cargo run --release --offline --bin growth > ../docs/measured/growth.md`, in `reference/`. What it shows:
+`docs/SPEED.md`.
+
+![Instructions of calls against records and against days](growth.svg)
+";
+
 fn print_table(drawn: &[Drawn]) {
+    println!("{TITLE}");
     println!(
         "| call | against | least | instructions | most | instructions | slope | of the last four points |"
     );
@@ -73,7 +83,7 @@ fn print_table(drawn: &[Drawn]) {
 fn path(word: Option<&String>) -> PathBuf {
     match word {
         Some(word) => word.into(),
-        None => Path::new(env!("CARGO_MANIFEST_DIR")).join("../docs/growth.svg"),
+        None => Path::new(env!("CARGO_MANIFEST_DIR")).join("../docs/measured/growth.svg"),
     }
 }
 
