@@ -1,13 +1,14 @@
 //! The calls on a book and on day chains and the writing calls, by the library and by the reference, with answers of
 //! the same form.
 
-use crate::ffi;
-use crate::ffi::book::{BookAnswer, LineAnswer, LinesAnswer, RecordAnswer};
-use crate::ffi::pages::{CountAnswer, FallsAnswer, OccurrenceAnswer, PageLineAnswer};
-use crate::ffi::writer::WriterAnswer;
+use crate::answers::{entry_of, settings_of, state_of, writer_answer, IntoAnswer};
 use crate::pages::ShortMonth;
 use crate::writer::{NewRecord, Writer};
 use crate::{book, chains, export, pages, printed, writer};
+use apptbook::raw;
+use apptbook::raw::book::{BookAnswer, LineAnswer, LinesAnswer, RecordAnswer};
+use apptbook::raw::pages::{CountAnswer, FallsAnswer, OccurrenceAnswer, PageLineAnswer};
+use apptbook::raw::writer::WriterAnswer;
 
 type Add = fn(WriterAnswer, &mut [u8], RecordAnswer, &[u8], &[u8]) -> WriterAnswer;
 type CheckChains = fn(&[u8], &[u16], &[u16], &[u16], &[u16]) -> CountAnswer;
@@ -33,44 +34,44 @@ pub struct Calls {
 
 pub const PROVED: Calls = Calls {
     name: "the library",
-    read_book: ffi::book::read_book,
-    record: ffi::book::record,
-    note_lines: ffi::book::note_lines,
-    note_line: ffi::book::note_line,
-    falls_on: ffi::pages::falls_on,
-    next_occurrence: ffi::pages::next_occurrence,
-    page_lines: ffi::pages::page_lines,
-    page_line: ffi::pages::page_line,
-    page_length: ffi::pages::page_length,
-    print_page: ffi::pages::print_page,
-    export: ffi::export::export,
-    open: ffi::writer::open,
-    add: ffi::writer::add,
-    close: ffi::writer::close,
-    check_chains: ffi::chains::check_chains,
+    read_book: raw::book::read_book,
+    record: raw::book::record,
+    note_lines: raw::book::note_lines,
+    note_line: raw::book::note_line,
+    falls_on: raw::pages::falls_on,
+    next_occurrence: raw::pages::next_occurrence,
+    page_lines: raw::pages::page_lines,
+    page_line: raw::pages::page_line,
+    page_length: raw::pages::page_length,
+    print_page: raw::pages::print_page,
+    export: raw::export::export,
+    open: raw::writer::open,
+    add: raw::writer::add,
+    close: raw::writer::close,
+    check_chains: raw::chains::check_chains,
 };
 
 pub const PLAIN: Calls = Calls {
     name: "the reference",
-    read_book: |file| book::read_book(file).into(),
-    record: |file, record| book::record(file, record).into(),
-    note_lines: |file, record| book::note_lines(file, record).into(),
-    note_line: |file, record, line| book::note_line(file, record, line).into(),
-    falls_on: |file, record, day, choice| pages::falls_on(file, record, day, choice).into(),
-    next_occurrence: |file, record, day, choice| pages::next_occurrence(file, record, day, choice).into(),
-    page_lines: |file, day, choice| pages::page_lines(file, day, choice).into(),
-    page_line: |file, day, choice, line| pages::page_line(file, day, choice, line).into(),
-    page_length: |file, day, choice| printed::page_length(file, day, choice).into(),
-    print_page: |file, day, choice, buffer| printed::print_page(file, day, choice, buffer).into(),
-    export: |file, first, count, choice, buffer| export::export(file, first, count, choice, buffer).into(),
-    open: |settings, buffer| WriterAnswer::new(writer::open(settings.settings(), buffer), Writer::default()),
+    read_book: |file| book::read_book(file).answer(),
+    record: |file, record| book::record(file, record).answer(),
+    note_lines: |file, record| book::note_lines(file, record).answer(),
+    note_line: |file, record, line| book::note_line(file, record, line).answer(),
+    falls_on: |file, record, day, choice| pages::falls_on(file, record, day, choice).answer(),
+    next_occurrence: |file, record, day, choice| pages::next_occurrence(file, record, day, choice).answer(),
+    page_lines: |file, day, choice| pages::page_lines(file, day, choice).answer(),
+    page_line: |file, day, choice, line| pages::page_line(file, day, choice, line).answer(),
+    page_length: |file, day, choice| printed::page_length(file, day, choice).answer(),
+    print_page: |file, day, choice, buffer| printed::print_page(file, day, choice, buffer).answer(),
+    export: |file, first, count, choice, buffer| export::export(file, first, count, choice, buffer).answer(),
+    open: |settings, buffer| writer_answer(writer::open(settings_of(settings), buffer), Writer::default()),
     add: |state, buffer, record, text, note| {
-        let new = NewRecord { flag: record.flag, entry: record.entry(), text, note };
-        WriterAnswer::new(writer::add(state.state(), buffer, new), state.state())
+        let new = NewRecord { flag: record.flag, entry: entry_of(record), text, note };
+        writer_answer(writer::add(state_of(state), buffer, new), state_of(state))
     },
-    close: |state, buffer| WriterAnswer::new(writer::close(state.state(), buffer), state.state()),
+    close: |state, buffer| writer_answer(writer::close(state_of(state), buffer), state_of(state)),
     check_chains: |table, previous, next, kinds, minutes| {
-        chains::check_chains(table, previous, next, kinds, minutes).into()
+        chains::check_chains(table, previous, next, kinds, minutes).answer()
     },
 };
 

@@ -10,7 +10,7 @@ mod dates;
 pub mod files;
 mod look;
 mod memory;
-mod numbers;
+pub mod numbers;
 pub mod program;
 mod writing;
 

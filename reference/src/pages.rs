@@ -6,15 +6,8 @@ use crate::book;
 use crate::days::{day_facts, next_day, Facts, LAST_DAY};
 use crate::records::{Entry, Record, Rule, Times};
 use crate::refusal::{Refusal, NO_SUCH_NUMBER};
+pub use apptbook::ShortMonth;
 use std::ops::Range;
-
-/// What becomes of a day that its month does not have. A caller that names none gets skip.
-#[derive(Clone, Copy, Debug, Default, PartialEq, Eq)]
-pub enum ShortMonth {
-    #[default]
-    Skip,
-    Last,
-}
 
 pub const CHOICES: [ShortMonth; 2] = [ShortMonth::Skip, ShortMonth::Last];
 

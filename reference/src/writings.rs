@@ -4,12 +4,13 @@
 
 mod faults;
 
+use crate::answers::IntoAnswer;
 use crate::book::{self, LONGEST};
 use crate::books::{full_note, letters, Draft, File};
-use crate::ffi::book::{BookAnswer, RecordAnswer};
 use crate::records::HEAD;
 use crate::rng::Rng;
 use crate::writer::Writer;
+use apptbook::raw::book::{BookAnswer, RecordAnswer};
 pub use faults::{faults, Fault, BAD_SETTINGS};
 use std::slice;
 
@@ -56,7 +57,7 @@ impl Item {
         let file = File::new([0, 0, 1, 0, 0, 0, 0], slice::from_ref(draft)).bytes;
         let file = bare(&file);
         Item {
-            record: book::record(&file, 0).into(),
+            record: book::record(&file, 0).answer(),
             text: draft.text.clone(),
             note: draft.note.clone(),
             bytes: file[12..file.len() - 3].to_vec(),

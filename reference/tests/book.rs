@@ -1,8 +1,9 @@
 //! The proved book reader against the plain one: every field of every answer, refusals too.
 
+use apptbook::raw::book::{self as proved, BookAnswer, LineAnswer, LinesAnswer, RecordAnswer};
+use reference::answers::IntoAnswer;
 use reference::book as plain;
 use reference::books::{changes, edge_notes, long, small, Cases, Draft, File, DAMAGES, SETTINGS};
-use reference::ffi::book::{self as proved, BookAnswer, LineAnswer, LinesAnswer, RecordAnswer};
 use reference::notes;
 use reference::records::Record;
 use reference::refusal::{Refusal, NO_SUCH_NUMBER};
@@ -196,13 +197,13 @@ fn every_kind_by_hand() {
 
 /// Calls on this record and this line are to be refused in this way.
 fn is_refused(file: &[u8], record: usize, line: usize, refusal: Refusal) {
-    assert_eq!(proved::record(file, record), Err(refusal).into());
-    assert_eq!(proved::note_lines(file, record), Err(refusal).into());
-    assert_eq!(proved::note_line(file, record, line), Err(refusal).into());
+    assert_eq!(proved::record(file, record), Err(refusal).answer());
+    assert_eq!(proved::note_lines(file, record), Err(refusal).answer());
+    assert_eq!(proved::note_line(file, record, line), Err(refusal).answer());
 }
 
 fn is_refused_book(file: &[u8], refusal: Refusal) {
-    assert_eq!(proved::read_book(file), Err(refusal).into());
+    assert_eq!(proved::read_book(file), Err(refusal).answer());
     is_refused(file, 0, 0, refusal);
     is_refused(file, usize::MAX, usize::MAX, refusal);
 }
@@ -282,7 +283,7 @@ fn compare_some(file: &[u8], name: &str, asked: impl Fn(usize) -> bool) {
     let lent = [&[0xFF], file, &AFTER].concat();
     let part = &lent[1..=file.len()];
     let show = || if file.len() < 500 { format!("{name}: {file:?}") } else { name.to_string() };
-    assert_eq!(proved::read_book(part), plain::read_book(file).into(), "{}", show());
+    assert_eq!(proved::read_book(part), plain::read_book(file).answer(), "{}", show());
     match plain::records(file) {
         Ok(records) => {
             for (number, record) in records.iter().enumerate() {
@@ -301,19 +302,19 @@ fn compare_some(file: &[u8], name: &str, asked: impl Fn(usize) -> bool) {
 
 fn compare_record(file: &[u8], number: usize, record: &Record, show: &impl Fn() -> String) {
     let answer = proved::record(file, number);
-    assert_eq!(answer, Ok(record.clone()).into(), "record {number}, {}", show());
+    assert_eq!(answer, Ok(record.clone()).answer(), "record {number}, {}", show());
     assert!(answer.text_at + answer.text_length <= file.len());
     assert!(answer.note_at + answer.note_length <= file.len());
     let at = record.note.start;
     let mut lines = 0;
     for line in notes::lines(&file[record.note.clone()]) {
-        let expected = Ok(at + line.start..at + line.end).into();
+        let expected = Ok(at + line.start..at + line.end).answer();
         assert_eq!(proved::note_line(file, number, lines), expected, "line {lines}, {}", show());
         lines += 1;
     }
-    assert_eq!(proved::note_lines(file, number), Ok(lines).into(), "{}", show());
+    assert_eq!(proved::note_lines(file, number), Ok(lines).answer(), "{}", show());
     for line in [lines, usize::MAX] {
-        assert_eq!(proved::note_line(file, number, line), Err(NO_SUCH_NUMBER).into(), "{}", show());
+        assert_eq!(proved::note_line(file, number, line), Err(NO_SUCH_NUMBER).answer(), "{}", show());
     }
 }
 

@@ -1,8 +1,9 @@
 //! The proved day arithmetic against the plain one: every field of every answer, refusals too.
 
+use apptbook::raw::days::{self as proved, DateAnswer, DayAnswer, FactsAnswer, WeekdayAnswer};
+use reference::answers::IntoAnswer;
 use reference::civil;
 use reference::days::{self as plain, Date, Facts, LAST_DAY};
-use reference::ffi::days::{self as proved, DateAnswer, DayAnswer, FactsAnswer, WeekdayAnswer};
 use reference::refusal::Refusal;
 use reference::rng::Rng;
 
@@ -37,13 +38,13 @@ fn set_p() {
 #[test]
 fn every_day_number() {
     for day in 0..=u16::MAX {
-        assert_eq!(proved::date_of_day(day), plain::date_of_day(day).into(), "date of day {day}");
-        assert_eq!(proved::weekday(day), plain::weekday(day).into(), "weekday of day {day}");
-        assert_eq!(proved::day_facts(day), plain::day_facts(day).into(), "facts of day {day}");
-        assert_eq!(proved::calendar_of_psion(day), plain::calendar_of_psion(day).into(), "Psion day {day}");
+        assert_eq!(proved::date_of_day(day), plain::date_of_day(day).answer(), "date of day {day}");
+        assert_eq!(proved::weekday(day), plain::weekday(day).answer(), "weekday of day {day}");
+        assert_eq!(proved::day_facts(day), plain::day_facts(day).answer(), "facts of day {day}");
+        assert_eq!(proved::calendar_of_psion(day), plain::calendar_of_psion(day).answer(), "Psion day {day}");
         assert_eq!(
             proved::psion_of_calendar(day),
-            plain::psion_of_calendar(day).into(),
+            plain::psion_of_calendar(day).answer(),
             "Calendar day {day}"
         );
     }
@@ -52,7 +53,7 @@ fn every_day_number() {
 fn compare_date(date: Date) {
     let Date { year, month, day } = date;
     assert_eq!(proved::is_real_date(year, month, day), plain::is_real_date(date), "{date:?}");
-    assert_eq!(proved::day_of_date(year, month, day), plain::day_of_date(date).into(), "{date:?}");
+    assert_eq!(proved::day_of_date(year, month, day), plain::day_of_date(date).answer(), "{date:?}");
 }
 
 #[test]
@@ -81,7 +82,7 @@ fn random_dates() {
 fn every_month_length() {
     for year in 0..=u16::MAX {
         for month in (0..=13).chain([255]) {
-            let expected = plain::month_length(year, month).into();
+            let expected = plain::month_length(year, month).answer();
             assert_eq!(proved::month_length(year, month), expected, "month {month} of {year}");
         }
     }
@@ -91,17 +92,17 @@ fn every_month_length() {
 fn stepping_through_every_day() {
     let mut facts = proved::day_facts(0);
     for day in 0..LAST_DAY {
-        assert_eq!(facts, plain::day_facts(day).into(), "day {day}");
+        assert_eq!(facts, plain::day_facts(day).answer(), "day {day}");
         facts = proved::next_day(facts);
     }
-    assert_eq!(facts, plain::day_facts(LAST_DAY).into());
+    assert_eq!(facts, plain::day_facts(LAST_DAY).answer());
     assert_eq!(proved::next_day(facts), FactsAnswer { number: 11, ..Default::default() });
 }
 
 /// `number` and `place` are what the facts come in with: they are to make no difference.
 fn compare_step(facts: Facts, number: u32, place: usize) {
-    let asked = FactsAnswer { number, place, ..Ok(facts).into() };
-    assert_eq!(proved::next_day(asked), plain::next_day(facts).into(), "{asked:?}");
+    let asked = FactsAnswer { number, place, ..Ok(facts).answer() };
+    assert_eq!(proved::next_day(asked), plain::next_day(facts).answer(), "{asked:?}");
 }
 
 #[test]

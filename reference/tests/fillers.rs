@@ -1,9 +1,10 @@
 //! Every call on a book with fillers gives what it gives without them: answers and whole buffers.
 
+use apptbook::raw::book::{BookAnswer, LineAnswer, LinesAnswer, RecordAnswer};
+use apptbook::raw::pages::{CountAnswer, FallsAnswer, OccurrenceAnswer, PageLineAnswer};
+use reference::answers::IntoAnswer;
 use reference::books::{book_near, book_of_span, edge_day, small, File, Span};
 use reference::calls::{Calls, PLAIN, PROVED};
-use reference::ffi::book::{BookAnswer, LineAnswer, LinesAnswer, RecordAnswer};
-use reference::ffi::pages::{CountAnswer, FallsAnswer, OccurrenceAnswer, PageLineAnswer};
 use reference::pages::ShortMonth::{self, Last, Skip};
 use reference::pages::CHOICES;
 use reference::refusal::Refusal;
@@ -179,14 +180,14 @@ fn wrong_fillers() {
         [(filled(128), 33), (spoiled(1, 33), 33), (spoiled(127, 37), 37), (spoiled(127, 159), 159)]
     {
         let refusal = Refusal { number: 9, place };
-        let (record, lines, line) = (Err(refusal).into(), Err(refusal).into(), Err(refusal).into());
-        let nothing = |room: usize| (Err(refusal).into(), pattern(room));
+        let (record, lines, line) = (Err(refusal).answer(), Err(refusal).answer(), Err(refusal).answer());
+        let nothing = |room: usize| (Err(refusal).answer(), pattern(room));
         let expected = Given {
-            book: Err(refusal).into(),
-            records: vec![(record, lines, vec![line], Err(refusal).into(), Err(refusal).into())],
-            lines: Err(refusal).into(),
-            page: vec![Err(refusal).into()],
-            length: Err(refusal).into(),
+            book: Err(refusal).answer(),
+            records: vec![(record, lines, vec![line], Err(refusal).answer(), Err(refusal).answer())],
+            lines: Err(refusal).answer(),
+            page: vec![Err(refusal).answer()],
+            length: Err(refusal).answer(),
             printed: [nothing(9), nothing(0), nothing(0)],
             exported: [nothing(11_000), nothing(0), nothing(0)],
         };

@@ -1,12 +1,13 @@
 //! Short runs of hostile inputs; long ones are run by `cargo run --release --bin fuzz -- SECONDS`.
 
+use apptbook::raw::{book, chains, export, pages};
 use reference::book as plain_book;
 use reference::books::{book_of_span, crowded, Span};
 use reference::chains::MOST_RECORDS;
 use reference::day_chains::Plan;
-use reference::ffi::{book, chains, export, pages};
 use reference::fuzz::calls::Fuzz;
 use reference::fuzz::{files, program, Tally};
+use reference::header;
 use reference::pages::ShortMonth::{Last, Skip};
 use reference::printed;
 use reference::refusal::Refusal;
@@ -141,19 +142,9 @@ fn ask_together(books: [&[u8]; 4]) {
 /// The header declares no call that is not among them.
 #[test]
 fn every_call_of_the_header() {
-    let header = Path::new(env!("CARGO_MANIFEST_DIR")).join("../include/apptbook.h");
-    let header = std::fs::read_to_string(header).expect("the header");
-    let code: String = header.split("/*").map(|part| part.split_once("*/").map_or(part, |p| p.1)).collect();
-    let mut declared: Vec<&str> = code
-        .split("apptbook_")
-        .skip(1)
-        .filter_map(|part| part.split_once('(').map(|(name, _)| name))
-        .filter(|name| name.chars().all(|letter| letter.is_ascii_lowercase() || letter == '_'))
-        .collect();
-    declared.sort();
     let mut calls: Vec<&str> = CALLS.iter().map(|call| call.0).collect();
     calls.sort();
-    assert_eq!(declared, calls);
+    assert_eq!(header::calls(), calls);
 }
 
 #[test]

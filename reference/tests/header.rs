@@ -1,6 +1,6 @@
 //! `include/apptbook.h`: compiles as strict C99 and as C++, links, and says what the library does.
 
-use reference::ffi::days::{DateAnswer, DayAnswer, FactsAnswer, LengthAnswer, WeekdayAnswer};
+use apptbook::raw::days::{DateAnswer, DayAnswer, FactsAnswer, LengthAnswer, WeekdayAnswer};
 use std::path::Path;
 use std::process::{Command, Output};
 
@@ -72,8 +72,28 @@ macro_rules! in_both {
 
 in_both!("header.c", expected());
 
+/// The crate has the same numbers, which the sources print.
+#[test]
+fn the_numbers_of_the_crate() {
+    use apptbook::raw::book::*;
+    use apptbook::refusals::*;
+    let refusals = [
+        [0, BOOK_TOO_LONG, NOT_A_BOOK, BAD_SETTINGS, CUT_SHORT, UNKNOWN_TYPE].as_slice(),
+        &[BAD_LENGTH, BAD_FIELD, BAD_TEXT, AFTER_END, NO_SUCH_NUMBER],
+        &[OUT_OF_RANGE, NO_ROOM, TOO_MANY_BLOCKS, NOT_OPEN],
+        &[CALENDAR_TOO_LONG, NOT_A_CALENDAR, BAD_TABLE, BAD_BLOCK, BAD_APPOINTMENT],
+        &[BAD_ARRAYS, BAD_DAY_TABLE, BAD_CHAIN, BAD_CHAIN_ORDER],
+    ];
+    let words: Vec<String> = refusals.concat().iter().map(u32::to_string).collect();
+    assert_eq!(format!("refusals {}\n", words.join(" ")), REFUSALS);
+    let kinds = [DATED, WEEKLY, MONTHLY_BY_DATE, MONTHLY_BY_POSITION, YEARLY, TO_DO];
+    assert!(book::CALLS.starts_with(&format!("kinds {}\n", kinds.map(|kind| kind.to_string()).join(" "))));
+    let flags = format!("flags {} {}\n", apptbook::FLAG_ALARM, apptbook::FLAG_SPECIAL_TIME);
+    assert!(calendar::CALLS.starts_with(&flags));
+}
+
 mod book {
-    use reference::ffi::book::{BookAnswer, LineAnswer, LinesAnswer, RecordAnswer};
+    use apptbook::raw::book::{BookAnswer, LineAnswer, LinesAnswer, RecordAnswer};
 
     fn expected() -> String {
         let sizes = [
@@ -85,7 +105,7 @@ mod book {
         format!("sizes {}\n{CALLS}", sizes.map(|size| size.to_string()).join(" "))
     }
 
-    const CALLS: &str = "\
+    pub const CALLS: &str = "\
 kinds 1 2 3 4 5 6
 read_book 0 0 1 480 30 5 1 0
 read_book 4 12 0 0 0 0 0 0
@@ -102,7 +122,7 @@ note_line 10 0 0 0\u{20}
 }
 
 mod writer {
-    use reference::ffi::writer::WriterAnswer;
+    use apptbook::raw::writer::WriterAnswer;
 
     fn expected() -> String {
         format!("sizes {}\n{CALLS}", size_of::<WriterAnswer>())
@@ -123,7 +143,7 @@ same 1
 }
 
 mod pages {
-    use reference::ffi::pages::{CountAnswer, FallsAnswer, OccurrenceAnswer, PageLineAnswer};
+    use apptbook::raw::pages::{CountAnswer, FallsAnswer, OccurrenceAnswer, PageLineAnswer};
 
     fn expected() -> String {
         let sizes = [
@@ -161,14 +181,14 @@ print_page 0 0 30
 }
 
 mod calendar {
-    use reference::ffi::calendar::{AppointmentAnswer, DescriptorAnswer};
+    use apptbook::raw::calendar::{AppointmentAnswer, DescriptorAnswer};
 
     fn expected() -> String {
         let sizes = [size_of::<DescriptorAnswer>(), size_of::<AppointmentAnswer>()];
         format!("sizes {}\n{CALLS}", sizes.map(|size| size.to_string()).join(" "))
     }
 
-    const CALLS: &str = "\
+    pub const CALLS: &str = "\
 flags 1 2
 read_calendar 0 0 1
 read_calendar 21 0 0

@@ -1,8 +1,9 @@
 //! Lengths that more than 32 bits hold. Of the bytes lent, only the first have memory; the rest are zeros that cannot be
 //! written to.
 
+use apptbook::raw::{book, calendar, chains, export, pages, writer};
+use reference::answers::IntoAnswer;
 use reference::chains::NONE;
-use reference::ffi::{book, calendar, chains, export, pages, writer};
 use reference::pages::CHOICES;
 use reference::refusal::Refusal;
 use reference::vectors::{calendars, WHOLE_CASE};
@@ -41,18 +42,18 @@ fn huge_books() {
     let file = &*lent(&WHOLE_CASE, 2 * HUGE + 33);
     for length in [FRONT + 33, HUGE, HUGE + 33, 2 * HUGE + 33] {
         let file = &file[..length];
-        assert_eq!(book::read_book(file), Err(refusal).into());
-        assert_eq!(book::record(file, 0), Err(refusal).into());
-        assert_eq!(book::note_lines(file, 0), Err(refusal).into());
-        assert_eq!(book::note_line(file, 0, 0), Err(refusal).into());
+        assert_eq!(book::read_book(file), Err(refusal).answer());
+        assert_eq!(book::record(file, 0), Err(refusal).answer());
+        assert_eq!(book::note_lines(file, 0), Err(refusal).answer());
+        assert_eq!(book::note_line(file, 0, 0), Err(refusal).answer());
         for choice in CHOICES {
-            assert_eq!(pages::falls_on(file, 0, 4_822, choice), Err(refusal).into());
-            assert_eq!(pages::next_occurrence(file, 0, 4_822, choice), Err(refusal).into());
-            assert_eq!(pages::page_lines(file, 4_822, choice), Err(refusal).into());
-            assert_eq!(pages::page_line(file, 4_822, choice, 0), Err(refusal).into());
-            assert_eq!(pages::page_length(file, 4_822, choice), Err(refusal).into());
-            assert_eq!(pages::print_page(file, 4_822, choice, &mut [0; 99]), Err(refusal).into());
-            assert_eq!(export::export(file, 4_822, 1, choice, &mut [0; 999]), Err(refusal).into());
+            assert_eq!(pages::falls_on(file, 0, 4_822, choice), Err(refusal).answer());
+            assert_eq!(pages::next_occurrence(file, 0, 4_822, choice), Err(refusal).answer());
+            assert_eq!(pages::page_lines(file, 4_822, choice), Err(refusal).answer());
+            assert_eq!(pages::page_line(file, 4_822, choice, 0), Err(refusal).answer());
+            assert_eq!(pages::page_length(file, 4_822, choice), Err(refusal).answer());
+            assert_eq!(pages::print_page(file, 4_822, choice, &mut [0; 99]), Err(refusal).answer());
+            assert_eq!(export::export(file, 4_822, 1, choice, &mut [0; 999]), Err(refusal).answer());
         }
     }
 }
@@ -63,10 +64,10 @@ fn huge_calendar_files() {
     let file = &*lent(&calendars::whole_case(), HUGE + 192);
     for length in [HUGE, HUGE + 192] {
         let file = &file[..length];
-        assert_eq!(calendar::read_calendar(file), Err(refusal).into());
-        assert_eq!(calendar::calendar_day(file, 0), Err(refusal).into());
-        assert_eq!(calendar::calendar_appointments(file, 4_822), Err(refusal).into());
-        assert_eq!(calendar::calendar_appointment(file, 4_822, 0), Err(refusal).into());
+        assert_eq!(calendar::read_calendar(file), Err(refusal).answer());
+        assert_eq!(calendar::calendar_day(file, 0), Err(refusal).answer());
+        assert_eq!(calendar::calendar_appointments(file, 4_822), Err(refusal).answer());
+        assert_eq!(calendar::calendar_appointment(file, 4_822, 0), Err(refusal).answer());
     }
 }
 
@@ -115,7 +116,7 @@ fn huge_arrays() {
     // SAFETY: any bytes are numbers.
     let (_, numbers, _) = unsafe { bytes.align_to::<u16>() };
     assert_eq!((numbers.len(), numbers[0], numbers[1]), (HUGE + 1, NONE, 0));
-    let refused = Err(Refusal { number: 30, place: 0 }).into();
+    let refused = Err(Refusal { number: 30, place: 0 }).answer();
     for length in [FRONT + 1, HUGE, HUGE + 1] {
         for array in 0..4 {
             let mut arrays = [&numbers[..1]; 4];
@@ -128,7 +129,7 @@ fn huge_arrays() {
         assert_eq!(chains::check_chains(&TABLE, all, all, all, all), refused, "{length}");
     }
     let one = &numbers[..1];
-    assert_eq!(chains::check_chains(&TABLE, one, one, &[0], &[0]), Ok(1).into());
+    assert_eq!(chains::check_chains(&TABLE, one, one, &[0], &[0]), Ok(1).answer());
 }
 
 /// The right table and zeros behind it: its last entry stands before others.
@@ -137,7 +138,7 @@ fn huge_tables() {
     let table = &*lent(&TABLE, HUGE + 10);
     for length in [FRONT + 10, HUGE, HUGE + 10] {
         let answer = chains::check_chains(&table[..length], &[NONE], &[NONE], &[0], &[0]);
-        assert_eq!(answer, Err(Refusal { number: 31, place: 1 }).into(), "{length}");
+        assert_eq!(answer, Err(Refusal { number: 31, place: 1 }).answer(), "{length}");
     }
 }
 
@@ -151,11 +152,11 @@ fn every_date() {
     };
     let mut table: Vec<u8> = all.flat_map(entry).collect();
     let check = |table: &[u8]| chains::check_chains(table, &[NONE], &[NONE], &[0], &[0]);
-    assert_eq!(check(&table), Err(Refusal { number: 31, place: 16_777_215 }).into());
+    assert_eq!(check(&table), Err(Refusal { number: 31, place: 16_777_215 }).answer());
     table.extend([0, 0, 0, 255]);
-    assert_eq!(check(&table), Err(Refusal { number: 31, place: 16_777_216 }).into());
+    assert_eq!(check(&table), Err(Refusal { number: 31, place: 16_777_216 }).answer());
     table.push(255);
-    assert_eq!(check(&table), Err(Refusal { number: 32, place: 1 }).into());
+    assert_eq!(check(&table), Err(Refusal { number: 32, place: 1 }).answer());
     table.extend([0, 0, 0, 255, 255]);
-    assert_eq!(check(&table), Err(Refusal { number: 31, place: 16_777_216 }).into());
+    assert_eq!(check(&table), Err(Refusal { number: 31, place: 16_777_216 }).answer());
 }

@@ -1,9 +1,10 @@
 //! The plain book writer alone: books by hand, and whether the makers of runs know what they make.
 
+use apptbook::raw::book::RecordAnswer;
+use reference::answers::{entry_of, settings_of, IntoAnswer};
 use reference::book::{self, Settings, LONGEST};
 use reference::books::Cases;
 use reference::days::Date;
-use reference::ffi::book::RecordAnswer;
 use reference::records::{Entry, Times};
 use reference::refusal::Refusal;
 use reference::rng::Rng;
@@ -111,7 +112,7 @@ fn refusals_by_hand() {
 
 fn new_record(item: &Item) -> NewRecord<'_> {
     let Item { record, text, note, .. } = item;
-    NewRecord { flag: record.flag, entry: record.entry(), text, note }
+    NewRecord { flag: record.flag, entry: entry_of(*record), text, note }
 }
 
 /// The number that a call is to give, and what is then to stand at `used` where that is 0.
@@ -156,7 +157,7 @@ fn try_run(run: &Run, seen: &mut Seen) {
                 continue;
             }
             // It starts at 0, whatever the state is.
-            Call::Open(settings, _) => ("open", opened(0), writer::open(settings.settings(), buffer)),
+            Call::Open(settings, _) => ("open", opened(0), writer::open(settings_of(*settings), buffer)),
             Call::Add(item) => ("add", state, writer::add(state, buffer, new_record(item))),
             Call::Close => ("close", state, writer::close(state, buffer)),
         };
@@ -225,8 +226,8 @@ fn written(file: &[u8], room: usize) -> Vec<u8> {
     let settings = book::read_book(file).expect("a right book").settings;
     let mut state = writer::open(settings, &mut buffer).expect("room");
     for record in book::records(file).expect("a right book") {
-        let answer = RecordAnswer::from(Ok(record.clone()));
-        assert_eq!(answer.entry(), Some(record.entry));
+        let answer: RecordAnswer = Ok(record.clone()).answer();
+        assert_eq!(entry_of(answer), Some(record.entry));
         let (flag, entry) = (record.flag, Some(record.entry));
         let record = NewRecord { flag, entry, text: &file[record.text], note: &file[record.note] };
         state = writer::add(state, &mut buffer, record).expect("room");

@@ -1,7 +1,8 @@
 //! The examples of README.md, taken out of its text: each is compiled by the command that stands there, and run.
 //!
 //! The commands run in a folder that looks like the top of the repository: `include` and `examples` are its own,
-//! `target/staticlib/libcabi.a` is the archive that all tests link, and `run` is the program that they run.
+//! `bindings` is a copy, which looks for its archive in this folder, `target/staticlib/libcabi.a` is the archive that
+//! all tests link, and `run` is the program that they run.
 
 use reference::vectors::calendars::whole_case;
 use std::os::unix::fs::symlink;
@@ -64,55 +65,60 @@ fn folder(name: &str) -> PathBuf {
     ] {
         symlink(from, folder.join(to)).expect("a link");
     }
+    let copied =
+        Command::new("cp").arg("-R").args([top().join("bindings"), folder.join("bindings")]).status();
+    assert!(copied.expect("cp").success());
     folder
 }
 
 /// Runs a block's lines by the shell; none may fail or complain. Gives what they print.
 fn shell(folder: &Path, lines: &str) -> Vec<u8> {
-    let output = Command::new("sh").args(["-ec", lines]).current_dir(folder).output().expect("a shell");
+    let mut command = Command::new("sh");
+    command
+        .args(["-ec", lines])
+        .current_dir(folder)
+        .env_remove("APPTBOOK_LIB")
+        .env("CARGO_NET_OFFLINE", "true");
+    let output = command.output().expect("a shell");
     let complaint = String::from_utf8_lossy(&output.stderr);
     assert!(output.status.success() && complaint.is_empty(), "{lines}{}\n{complaint}", output.status);
     output.stdout
-}
-
-struct Example {
-    printed: String,
-    /// For a book that is cut short by a byte.
-    refused: String,
-    /// The block behind the commands.
-    shown: String,
 }
 
 fn plain(bytes: Vec<u8>) -> String {
     String::from_utf8(bytes).expect("plain text")
 }
 
-fn example(code: &str, file: &str, command: &str) -> Example {
-    let folder = folder(file);
-    fs::write(folder.join(file), code).expect("a file");
-    let blocks = indented(&readme());
-    let at = beginning(&blocks, command);
-    assert!(blocks[at].ends_with("\n./example < examples/case.book\n"), "{}", blocks[at]);
-    let printed = plain(shell(&folder, &blocks[at]));
-    let refused = plain(shell(&folder, "head -c 32 examples/case.book | ./example || true\n"));
-    Example { printed, refused, shown: blocks[at + 1].clone() }
-}
-
 #[test]
 fn the_c_example() {
-    let [code, _] = fenced(&readme(), "c");
-    let Example { printed, refused, shown } = example(&code, "example.c", "cc -Iinclude example.c ");
-    assert_eq!(printed, "kind 1: Dep\n");
-    assert_eq!(shown, printed);
-    assert_eq!(refused, "4 30\n");
+    let text = readme();
+    let [code, _] = fenced(&text, "c");
+    let folder = folder("example.c");
+    fs::write(folder.join("example.c"), code).expect("a file");
+    let blocks = indented(&text);
+    let at = beginning(&blocks, "cc -Iinclude example.c ");
+    assert!(blocks[at].ends_with("\n./example < examples/case.book\n"), "{}", blocks[at]);
+    assert_eq!(plain(shell(&folder, &blocks[at])), "kind 1: Dep\n");
+    assert_eq!(blocks[at + 1], "kind 1: Dep\n");
+    assert_eq!(shell(&folder, "head -c 32 examples/case.book | ./example || true\n"), b"4 30\n");
 }
 
 #[test]
 fn the_rust_example() {
-    let [code] = fenced(&readme(), "rust");
-    let Example { printed, refused, .. } = example(&code, "example.rs", "rustc ");
-    assert_eq!(printed, PAGE);
-    assert_eq!(refused, "4 30\n");
+    let text = readme();
+    let ([manifest], [code]) = (fenced(&text, "toml"), fenced(&text, "rust"));
+    let folder = folder("example.rs");
+    fs::create_dir_all(folder.join("page/src")).expect("a new folder");
+    for (file, content) in [("page/Cargo.toml", manifest), ("page/src/main.rs", code)] {
+        assert!(text.contains(&format!("`{file}`\n")), "{file}");
+        fs::write(folder.join(file), content).expect("a file");
+    }
+    let blocks = indented(&text);
+    let block = &blocks[beginning(&blocks, "cargo run ")];
+    assert_eq!(plain(shell(&folder, block)), PAGE);
+    let command = block.strip_suffix(" < examples/case.book\n").expect("the book as standard input");
+    let refused = shell(&folder, &format!("head -c 32 examples/case.book | {command} 2>&1 || true\n"));
+    assert_eq!(plain(refused), "Error: Refusal { number: 4, place: 30 }\n");
 }
 
 #[test]

@@ -1,9 +1,11 @@
 //! `host.c`, compiled with gcc's sanitizers for addresses and undefined behaviour: it looks at every byte that an answer
 //! points to, in files and buffers allocated with just their length. What it saw is what the reference gives.
 
+use apptbook::raw::book::BookAnswer;
+use apptbook::raw::pages::CountAnswer;
+use reference::answers::IntoAnswer;
 use reference::chains::check_chains;
 use reference::day_chains::{packed, unpacked};
-use reference::ffi::pages::CountAnswer;
 use reference::fuzz::chains::any_chains;
 use reference::fuzz::files;
 use reference::pages::{ShortMonth, CHOICES};
@@ -11,7 +13,7 @@ use reference::rng::Rng;
 use reference::vectors::fillers::filled;
 use reference::vectors::{calendars, chains, every_kind, WHOLE_CASE};
 use reference::writer::{self, NewRecord};
-use reference::{book, calendar, export, ffi, notes, pages, printed};
+use reference::{book, calendar, export, notes, pages, printed};
 use std::fs;
 use std::path::{Path, PathBuf};
 use std::process::{Command, Output};
@@ -125,9 +127,9 @@ impl Hash {
 
 fn line(file: &[u8]) -> String {
     let mut hash = Hash(14_695_981_039_346_656_037);
-    let book: ffi::book::BookAnswer = book::read_book(file).into();
-    let calendar: CountAnswer = calendar::read_calendar(file).into();
-    let chains: CountAnswer = unpacked(file).lent_to(check_chains).into();
+    let book: BookAnswer = book::read_book(file).answer();
+    let calendar: CountAnswer = calendar::read_calendar(file).answer();
+    let chains: CountAnswer = unpacked(file).lent_to(check_chains).answer();
     hash.numbers(file);
     if book.number == 0 {
         for number in 0..book.records.min(MOST_RECORDS) {

@@ -1,10 +1,10 @@
 //! The open vectors, made by an independent model of the papers: each case by the library and by the reference.
 
+use apptbook::raw::book::BookAnswer;
+use apptbook::raw::pages::CountAnswer;
 use reference::calendar;
 use reference::calls::{Calls, PLAIN, PROVED};
 use reference::cases::{cases, word, Case};
-use reference::ffi::book::BookAnswer;
-use reference::ffi::pages::CountAnswer;
 
 /// The answer's words, and nothing of the question is left.
 fn answer(mut case: Case, calls: &Calls) -> String {

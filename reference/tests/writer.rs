@@ -1,10 +1,11 @@
 //! The proved book writer against the plain one: every field of every answer, refusals too, and every byte
 //! of the buffer and around it after each call.
 
+use apptbook::raw::book::{self as reader, BookAnswer, RecordAnswer};
+use apptbook::raw::writer::{self as proved, WriterAnswer};
+use reference::answers::{entry_of, settings_of, state_of, writer_answer, IntoAnswer};
 use reference::book as plain_book;
 use reference::books::{edge_notes, long, small, Cases, Draft};
-use reference::ffi::book::{self as reader, BookAnswer, RecordAnswer};
-use reference::ffi::writer::{self as proved, WriterAnswer};
 use reference::notes;
 use reference::records::Record;
 use reference::rng::Rng;
@@ -86,7 +87,7 @@ fn every_kind_by_hand() {
     for (record, part) in every_kind_records().into_iter().zip(&EVERY_KIND_WRITTEN[1..]) {
         let (text, note) = (&file[record.text.clone()], &file[record.note.clone()]);
         let used = state.used;
-        state = proved::add(state, &mut buffer, Ok(record.clone()).into(), text, note);
+        state = proved::add(state, &mut buffer, Ok(record.clone()).answer(), text, note);
         assert_eq!(state, opened(used + part.len()), "{record:?}");
         assert_eq!(&buffer[used..state.used], *part, "{record:?}");
         assert!(buffer[state.used..].iter().all(|&byte| byte == 0xEE));
@@ -163,27 +164,27 @@ impl Both {
                 return None;
             }
             Call::Open(settings, _) => {
-                let result = plain::open(settings.settings(), plain);
-                (proved::open(*settings, proved), WriterAnswer::new(result, Writer::default()))
+                let result = plain::open(settings_of(*settings), plain);
+                (proved::open(*settings, proved), writer_answer(result, Writer::default()))
             }
             Call::Add(item) => {
                 let Item { record, text, note, .. } = &**item;
                 let (lent_text, lent_note) = (text.clone(), note.clone());
                 let answer = proved::add(state, proved, *record, &lent_text, &lent_note);
                 assert!(lent_text == *text && lent_note == *note, "text or note changed, {name}");
-                let new = NewRecord { flag: record.flag, entry: record.entry(), text, note };
-                (answer, WriterAnswer::new(plain::add(self.state, plain, new), self.state))
+                let new = NewRecord { flag: record.flag, entry: entry_of(*record), text, note };
+                (answer, writer_answer(plain::add(self.state, plain, new), self.state))
             }
             Call::Close => {
                 let answer = proved::close(state, proved);
-                (answer, WriterAnswer::new(plain::close(self.state, plain), self.state))
+                (answer, writer_answer(plain::close(self.state, plain), self.state))
             }
         };
         let show = || format!("{name}, {state:?}, room {}, {}", self.room, show(call));
         assert_eq!(answer, expected, "{}", show());
         assert!(self.proved == self.plain, "the buffers differ: {}", show());
         self.note_down(call, answer);
-        self.state = answer.state();
+        self.state = state_of(answer);
         Some(answer.number)
     }
 
@@ -229,10 +230,10 @@ fn read_back(file: &[u8], settings: BookAnswer, items: &[Item]) {
         let note_at = next - item.note.len();
         let text_at = note_at - item.text.len();
         if is_asked(number, items.len(), file) {
-            let entry = item.record.entry().expect("a right record");
+            let entry = entry_of(item.record).expect("a right record");
             let (text, note) = (text_at..note_at, note_at..next);
             let expected = Record { at, flag: item.record.flag, entry, text, note };
-            assert_eq!(reader::record(file, number), Ok(expected).into());
+            assert_eq!(reader::record(file, number), Ok(expected).answer());
             assert_eq!(file[text_at..note_at], item.text);
             assert_eq!(file[note_at..next], item.note);
         }
@@ -368,7 +369,7 @@ fn written(file: &[u8], room: usize) -> Vec<u8> {
     assert_eq!(book.records, known.len());
     for (number, known) in known.into_iter().enumerate() {
         let asked = is_asked(number, book.records, file);
-        let record = if asked { reader::record(file, number) } else { Ok(known).into() };
+        let record = if asked { reader::record(file, number) } else { Ok(known).answer() };
         let text = &file[record.text_at..record.text_at + record.text_length];
         let note = &file[record.note_at..record.note_at + record.note_length];
         assert_eq!(state.number, 0, "before record {number}");

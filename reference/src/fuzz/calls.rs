@@ -3,10 +3,12 @@
 use super::look::Look;
 use super::memory::{crashes_show, Pages};
 use super::{chains, dates, files, numbers, writing, Tally};
-use crate::ffi::pages::CountAnswer;
+use crate::answers::IntoAnswer;
 use crate::pages::ShortMonth;
 use crate::rng::Rng;
-use crate::{book, calendar, export, ffi, pages, printed};
+use crate::{book, calendar, export, pages, printed};
+use apptbook::raw;
+use apptbook::raw::pages::CountAnswer;
 
 /// A run of rounds.
 pub struct Fuzz {
@@ -75,13 +77,13 @@ impl Default for Fuzz {
 
 fn reading(look: &mut Look, file: &[u8], rng: &mut Rng) {
     let plain = book::read_book(file);
-    look.at("read_book", ffi::book::read_book(file), plain);
+    look.at("read_book", raw::book::read_book(file), plain);
     let record = numbers::long(plain.map_or(3, |book| book.records), rng);
-    look.at("record", ffi::book::record(file, record), book::record(file, record));
+    look.at("record", raw::book::record(file, record), book::record(file, record));
     let lines = book::note_lines(file, record);
-    look.at("note_lines", ffi::book::note_lines(file, record), lines);
+    look.at("note_lines", raw::book::note_lines(file, record), lines);
     let line = numbers::long(lines.unwrap_or(3), rng);
-    look.at("note_line", ffi::book::note_line(file, record, line), book::note_line(file, record, line));
+    look.at("note_line", raw::book::note_line(file, record, line), book::note_line(file, record, line));
 }
 
 /// Any day, or one on which a record falls, where there is one.
@@ -99,28 +101,28 @@ fn showing(look: &mut Look, file: &[u8], rng: &mut Rng) {
     let (day, choice) = (likely_day(file, rng), numbers::choice(rng));
     let record = numbers::long(book::read_book(file).map_or(3, |book| book.records), rng);
     let falls = pages::falls_on(file, record, day, choice);
-    look.at("falls_on", ffi::pages::falls_on(file, record, day, choice), falls);
+    look.at("falls_on", raw::pages::falls_on(file, record, day, choice), falls);
     let next = pages::next_occurrence(file, record, day, choice);
-    look.at("next_occurrence", ffi::pages::next_occurrence(file, record, day, choice), next);
+    look.at("next_occurrence", raw::pages::next_occurrence(file, record, day, choice), next);
     let lines = pages::page_lines(file, day, choice);
-    look.at("page_lines", ffi::pages::page_lines(file, day, choice), lines);
+    look.at("page_lines", raw::pages::page_lines(file, day, choice), lines);
     let line = numbers::long(lines.unwrap_or(3), rng);
     let plain = pages::page_line(file, day, choice, line);
-    look.at("page_line", ffi::pages::page_line(file, day, choice, line), plain);
+    look.at("page_line", raw::pages::page_line(file, day, choice, line), plain);
 }
 
 fn opening(look: &mut Look, file: &[u8], rng: &mut Rng) {
     let days = calendar::read_calendar(file);
-    look.at("read_calendar", ffi::calendar::read_calendar(file), days);
+    look.at("read_calendar", raw::calendar::read_calendar(file), days);
     let descriptor = numbers::long(days.unwrap_or(3), rng);
     let plain = calendar::calendar_day(file, descriptor);
-    look.at("calendar_day", ffi::calendar::calendar_day(file, descriptor), plain);
+    look.at("calendar_day", raw::calendar::calendar_day(file, descriptor), plain);
     let day = plain.map_or_else(|_| numbers::day(rng), |descriptor| descriptor.day);
     let count = calendar::calendar_appointments(file, day);
-    look.at("calendar_appointments", ffi::calendar::calendar_appointments(file, day), count);
+    look.at("calendar_appointments", raw::calendar::calendar_appointments(file, day), count);
     let number = numbers::long(count.unwrap_or(3), rng);
     let plain = calendar::calendar_appointment(file, day, number);
-    look.at("calendar_appointment", ffi::calendar::calendar_appointment(file, day, number), plain);
+    look.at("calendar_appointment", raw::calendar::calendar_appointment(file, day, number), plain);
 }
 
 /// Near to what is needed, or any length.
@@ -159,11 +161,11 @@ fn written(
 fn printing(look: &mut Look, file: &[u8], buffer: &mut Pages, rng: &mut Rng) {
     let (day, choice) = (likely_day(file, rng), numbers::choice(rng));
     let length = printed::page_length(file, day, choice);
-    look.at("page_length", ffi::pages::page_length(file, day, choice), length);
+    look.at("page_length", raw::pages::page_length(file, day, choice), length);
     let room = room(length.unwrap_or(40), rng);
     let before = rng.bytes(room);
-    let proved: Write = &|buffer| ffi::pages::print_page(file, day, choice, buffer);
-    let plain: Write = &|buffer| printed::print_page(file, day, choice, buffer).into();
+    let proved: Write = &|buffer| raw::pages::print_page(file, day, choice, buffer);
+    let plain: Write = &|buffer| printed::print_page(file, day, choice, buffer).answer();
     written(look, "print_page", buffer, &before, [proved, plain], rng);
 }
 
@@ -173,7 +175,7 @@ fn exporting(look: &mut Look, file: &[u8], buffer: &mut Pages, most: &mut [u8], 
     let needed = export::export(file, first, count, choice, most);
     let room = room(needed.unwrap_or(64), rng);
     let before = vec![rng.u8(); room];
-    let proved: Write = &|buffer| ffi::export::export(file, first, count, choice, buffer);
-    let plain: Write = &|buffer| export::export(file, first, count, choice, buffer).into();
+    let proved: Write = &|buffer| raw::export::export(file, first, count, choice, buffer);
+    let plain: Write = &|buffer| export::export(file, first, count, choice, buffer).answer();
     written(look, "export", buffer, &before, [proved, plain], rng);
 }

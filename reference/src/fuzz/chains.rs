@@ -4,8 +4,8 @@ use super::calls::Fuzz;
 use super::look::Look;
 use crate::chains as plain;
 use crate::day_chains::{packed, scratch, Cases, DayChains};
-use crate::ffi::chains as proved;
 use crate::rng::Rng;
+use apptbook::raw::chains as proved;
 use std::mem::swap;
 
 pub fn round(fuzz: &mut Fuzz) {

@@ -3,29 +3,29 @@
 use super::look::Look;
 use super::numbers;
 use crate::days::{self, Date, Facts};
-use crate::ffi;
-use crate::ffi::days::FactsAnswer;
 use crate::rng::Rng;
+use apptbook::raw;
+use apptbook::raw::days::FactsAnswer;
 
 pub fn round(look: &mut Look, rng: &mut Rng) {
     let (year, month, day) = numbers::date(rng);
     let date = Date { year, month, day };
-    look.at("month_length", ffi::days::month_length(year, month), days::month_length(year, month));
-    look.same("is_real_date", ffi::days::is_real_date(year, month, day), days::is_real_date(date));
-    look.at("day_of_date", ffi::days::day_of_date(year, month, day), days::day_of_date(date));
+    look.at("month_length", raw::days::month_length(year, month), days::month_length(year, month));
+    look.same("is_real_date", raw::days::is_real_date(year, month, day), days::is_real_date(date));
+    look.at("day_of_date", raw::days::day_of_date(year, month, day), days::day_of_date(date));
     let day = numbers::short(rng);
-    look.at("date_of_day", ffi::days::date_of_day(day), days::date_of_day(day));
-    look.at("weekday", ffi::days::weekday(day), days::weekday(day));
-    look.at("day_facts", ffi::days::day_facts(day), days::day_facts(day));
-    look.at("calendar_of_psion", ffi::days::calendar_of_psion(day), days::calendar_of_psion(day));
-    look.at("psion_of_calendar", ffi::days::psion_of_calendar(day), days::psion_of_calendar(day));
+    look.at("date_of_day", raw::days::date_of_day(day), days::date_of_day(day));
+    look.at("weekday", raw::days::weekday(day), days::weekday(day));
+    look.at("day_facts", raw::days::day_facts(day), days::day_facts(day));
+    look.at("calendar_of_psion", raw::days::calendar_of_psion(day), days::calendar_of_psion(day));
+    look.at("psion_of_calendar", raw::days::psion_of_calendar(day), days::psion_of_calendar(day));
     let facts = any_facts(rng);
-    look.at("next_day", ffi::days::next_day(facts), days::next_day(facts_of(facts)));
+    look.at("next_day", raw::days::next_day(facts), days::next_day(facts_of(facts)));
 }
 
 /// Of a day, of a day nearly, or of none.
 fn any_facts(rng: &mut Rng) -> FactsAnswer {
-    let mut facts = ffi::days::day_facts(numbers::day(rng));
+    let mut facts = raw::days::day_facts(numbers::day(rng));
     (facts.number, facts.place) = (rng.u64() as u32, rng.u64() as usize);
     for field in [
         &mut facts.calendar_day,

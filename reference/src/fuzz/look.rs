@@ -1,12 +1,12 @@
 //! Answers of the proved library, compared with the reference's and counted.
 
 use super::Tally;
-use crate::ffi::book::{BookAnswer, LineAnswer, LinesAnswer, RecordAnswer};
-use crate::ffi::calendar::{AppointmentAnswer, DescriptorAnswer};
-use crate::ffi::days::{DateAnswer, DayAnswer, FactsAnswer, LengthAnswer, WeekdayAnswer};
-use crate::ffi::pages::{CountAnswer, FallsAnswer, OccurrenceAnswer, PageLineAnswer};
-use crate::ffi::writer::WriterAnswer;
-use crate::refusal::Refusal;
+use crate::answers::IntoAnswer;
+use apptbook::raw::book::{BookAnswer, LineAnswer, LinesAnswer, RecordAnswer};
+use apptbook::raw::calendar::{AppointmentAnswer, DescriptorAnswer};
+use apptbook::raw::days::{DateAnswer, DayAnswer, FactsAnswer, LengthAnswer, WeekdayAnswer};
+use apptbook::raw::pages::{CountAnswer, FallsAnswer, OccurrenceAnswer, PageLineAnswer};
+use apptbook::raw::writer::WriterAnswer;
 use std::fmt::Debug;
 use std::{env, fs};
 
@@ -56,13 +56,8 @@ impl Look<'_> {
         }
     }
 
-    pub fn at<A: Answer + From<Result<B, Refusal>>, B>(
-        &mut self,
-        call: &'static str,
-        proved: A,
-        plain: Result<B, Refusal>,
-    ) {
-        self.same(call, proved, plain.into());
+    pub fn at<A: Answer>(&mut self, call: &'static str, proved: A, plain: impl IntoAnswer<A>) {
+        self.same(call, proved, plain.answer());
     }
 
     /// Keeps the file that was lent.

@@ -3,12 +3,13 @@
 use super::calls::Fuzz;
 use super::look::Look;
 use super::numbers;
-use crate::ffi::book::{BookAnswer, RecordAnswer};
-use crate::ffi::writer as proved;
-use crate::ffi::writer::WriterAnswer;
+use crate::answers::{entry_of, settings_of, state_of, writer_answer};
 use crate::rng::Rng;
 use crate::writer::{self as plain, NewRecord, Writer};
 use crate::writings::{Call, Item, Run, Runs};
+use apptbook::raw::book::{BookAnswer, RecordAnswer};
+use apptbook::raw::writer as proved;
+use apptbook::raw::writer::WriterAnswer;
 
 pub fn round(fuzz: &mut Fuzz) {
     let rng = &mut fuzz.rng;
@@ -36,19 +37,23 @@ fn make(fuzz: &mut Fuzz, call: Call, state: WriterAnswer, bytes: &mut Vec<u8>) -
     let mut lent = buffer.lend(&before, false, rng);
     let (name, by_proved, by_plain) = match call {
         Call::Open(settings, _) => {
-            let by_plain = plain::open(settings.settings(), bytes);
-            let by_plain = WriterAnswer::new(by_plain, Writer::default());
+            let by_plain = plain::open(settings_of(settings), bytes);
+            let by_plain = writer_answer(by_plain, Writer::default());
             ("open", proved::open(settings, lent.items_mut()), by_plain)
         }
         Call::Close => {
-            let by_plain = WriterAnswer::new(plain::close(state.state(), bytes), state.state());
+            let by_plain = writer_answer(plain::close(state_of(state), bytes), state_of(state));
             ("close", proved::close(state, lent.items_mut()), by_plain)
         }
         Call::Add(item) => {
             let Item { record, text: text_bytes, note: note_bytes, .. } = *item;
-            let new =
-                NewRecord { flag: record.flag, entry: record.entry(), text: &text_bytes, note: &note_bytes };
-            let by_plain = WriterAnswer::new(plain::add(state.state(), bytes, new), state.state());
+            let new = NewRecord {
+                flag: record.flag,
+                entry: entry_of(record),
+                text: &text_bytes,
+                note: &note_bytes,
+            };
+            let by_plain = writer_answer(plain::add(state_of(state), bytes, new), state_of(state));
             let (text, note) = (text.lend(&text_bytes, true, rng), note.lend(&note_bytes, true, rng));
             let by_proved = proved::add(state, lent.items_mut(), record, text.items(), note.items());
             assert!(text.is(&text_bytes) && note.is(&note_bytes), "seed {seed}: add changed text or note");

@@ -2,8 +2,8 @@
 
 use super::Item;
 use crate::books::{changes, letters, Change, Draft};
-use crate::ffi::book::{BookAnswer, RecordAnswer};
 use crate::rng::Rng;
+use apptbook::raw::book::{BookAnswer, RecordAnswer};
 
 pub struct Fault {
     pub name: String,

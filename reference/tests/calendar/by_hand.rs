@@ -1,7 +1,8 @@
 //! Calendar files written out by hand.
 
 use super::{compare, count, is_refused_file};
-use reference::ffi::calendar::{self as proved, AppointmentAnswer, DescriptorAnswer};
+use apptbook::raw::calendar::{self as proved, AppointmentAnswer, DescriptorAnswer};
+use reference::answers::IntoAnswer;
 use reference::refusal::{Refusal, NO_SUCH_NUMBER};
 use reference::vectors::calendars::{empty, offsets, two_days, whole_case};
 use reference::vectors::calendars::{CUTS, FAULTS, IGNORED, TWO_FAULTS};
@@ -33,7 +34,7 @@ fn the_whole_case() {
 fn no_days() {
     for file in [empty(), [&empty()[..8], &[0; 56]].concat(), [empty(), vec![9; 77]].concat()] {
         assert_eq!(proved::read_calendar(&file), count(0));
-        assert_eq!(proved::calendar_day(&file, 0), Err(NO_SUCH_NUMBER).into());
+        assert_eq!(proved::calendar_day(&file, 0), Err(NO_SUCH_NUMBER).answer());
         assert_eq!(proved::calendar_appointments(&file, 4_822), count(0));
         compare(&file, "no days");
     }

@@ -3,10 +3,11 @@
 mod by_hand;
 mod random;
 
+use apptbook::raw::calendar as proved;
+use apptbook::raw::pages::CountAnswer;
+use reference::answers::IntoAnswer;
 use reference::calendar as plain;
 use reference::days::LAST_DAY;
-use reference::ffi::calendar as proved;
-use reference::ffi::pages::CountAnswer;
 use reference::refusal::{Refusal, NO_SUCH_NUMBER, OUT_OF_RANGE};
 
 fn count(count: usize) -> CountAnswer {
@@ -15,12 +16,12 @@ fn count(count: usize) -> CountAnswer {
 
 /// Every call is to be refused in this way, whatever is asked for.
 fn is_refused_file(file: &[u8], refusal: Refusal) {
-    assert_eq!(proved::read_calendar(file), Err(refusal).into());
+    assert_eq!(proved::read_calendar(file), Err(refusal).answer());
     for number in [0, 1, usize::MAX] {
-        assert_eq!(proved::calendar_day(file, number), Err(refusal).into());
+        assert_eq!(proved::calendar_day(file, number), Err(refusal).answer());
         for day in [0, 4_822, LAST_DAY, LAST_DAY + 1, u16::MAX] {
-            assert_eq!(proved::calendar_appointments(file, day), Err(refusal).into());
-            assert_eq!(proved::calendar_appointment(file, day, number), Err(refusal).into());
+            assert_eq!(proved::calendar_appointments(file, day), Err(refusal).answer());
+            assert_eq!(proved::calendar_appointment(file, day, number), Err(refusal).answer());
         }
     }
 }
@@ -36,13 +37,13 @@ fn compare_some(file: &[u8], name: &str, asked: impl Fn(usize) -> bool) -> u32 {
     let part = &lent[1..=file.len()];
     let show = || if file.len() < 700 { format!("{name}: {file:?}") } else { name.to_string() };
     let read = plain::read_calendar(file);
-    assert_eq!(proved::read_calendar(part), read.into(), "{}", show());
+    assert_eq!(proved::read_calendar(part), read.answer(), "{}", show());
     match read {
         Err(refusal) => is_refused_file(part, refusal),
         Ok(days) => {
             for number in (0..days).filter(|&number| asked(number) || number + 1 == days) {
                 let descriptor = plain::calendar_day(file, number).expect("a day");
-                assert_eq!(proved::calendar_day(part, number), Ok(descriptor).into(), "{}", show());
+                assert_eq!(proved::calendar_day(part, number), Ok(descriptor).answer(), "{}", show());
                 compare_day(part, descriptor.day, &show);
                 compare_day(part, (descriptor.day + 1).min(LAST_DAY), &show);
             }
@@ -60,23 +61,23 @@ fn compare_day(file: &[u8], day: u16, show: &impl Fn() -> String) {
     for (number, appointment) in list.iter().enumerate() {
         if number < 20 || number + 2 >= list.len() {
             let answer = proved::calendar_appointment(file, day, number);
-            assert_eq!(answer, Ok(appointment.clone()).into(), "day {day}, {number}, {}", show());
+            assert_eq!(answer, Ok(appointment.clone()).answer(), "day {day}, {number}, {}", show());
             assert!(answer.text_at + answer.text_length <= file.len());
         }
     }
     for number in [list.len(), usize::MAX] {
-        assert_eq!(proved::calendar_appointment(file, day, number), Err(NO_SUCH_NUMBER).into());
+        assert_eq!(proved::calendar_appointment(file, day, number), Err(NO_SUCH_NUMBER).answer());
     }
 }
 
 /// What a right file does not have.
 fn compare_beyond(file: &[u8], days: usize) {
     for number in [days, days + 1, usize::MAX] {
-        assert_eq!(proved::calendar_day(file, number), Err(NO_SUCH_NUMBER).into());
+        assert_eq!(proved::calendar_day(file, number), Err(NO_SUCH_NUMBER).answer());
     }
     for day in [LAST_DAY + 1, 50_000, u16::MAX] {
-        assert_eq!(proved::calendar_appointments(file, day), Err(OUT_OF_RANGE).into());
-        assert_eq!(proved::calendar_appointment(file, day, 0), Err(OUT_OF_RANGE).into());
-        assert_eq!(proved::calendar_appointment(file, day, usize::MAX), Err(OUT_OF_RANGE).into());
+        assert_eq!(proved::calendar_appointments(file, day), Err(OUT_OF_RANGE).answer());
+        assert_eq!(proved::calendar_appointment(file, day, 0), Err(OUT_OF_RANGE).answer());
+        assert_eq!(proved::calendar_appointment(file, day, usize::MAX), Err(OUT_OF_RANGE).answer());
     }
 }

@@ -1,16 +1,17 @@
 //! Day chains written out by hand.
 
 use super::{compare, judged};
+use apptbook::raw::chains as proved;
+use apptbook::raw::pages::CountAnswer;
+use reference::answers::IntoAnswer;
 use reference::chains::NONE;
 use reference::day_chains::DayChains;
-use reference::ffi::chains as proved;
-use reference::ffi::pages::CountAnswer;
 use reference::vectors::chains::{all, example, three_days};
 
 #[test]
 fn all_by_hand() {
     for (name, lent, answer) in all() {
-        assert_eq!(judged(&lent), answer.into(), "{name}");
+        assert_eq!(judged(&lent), answer.answer(), "{name}");
     }
 }
 

@@ -3,10 +3,11 @@
 mod by_hand;
 mod random;
 
+use apptbook::raw::chains as proved;
+use apptbook::raw::pages::CountAnswer;
+use reference::answers::IntoAnswer;
 use reference::chains::{self as plain, NONE};
 use reference::day_chains::DayChains;
-use reference::ffi::chains as proved;
-use reference::ffi::pages::CountAnswer;
 use reference::refusal::Refusal;
 
 const AROUND: usize = 8;
@@ -42,6 +43,6 @@ fn judged(lent: &DayChains) -> CountAnswer {
 fn compare(lent: &DayChains, name: &str) -> Result<usize, Refusal> {
     let answer = lent.lent_to(plain::check_chains);
     let show = || if lent.next.len() < 100 { format!("{name}: {lent:?}") } else { name.to_string() };
-    assert_eq!(judged(lent), answer.into(), "{}", show());
+    assert_eq!(judged(lent), answer.answer(), "{}", show());
     answer
 }

@@ -4,10 +4,11 @@
 mod by_hand;
 mod random;
 
+use apptbook::raw::export as proved;
+use apptbook::raw::pages::CountAnswer;
+use apptbook::raw::{calendar as proved_calendar, pages as proved_pages};
+use reference::answers::IntoAnswer;
 use reference::books::Span;
-use reference::ffi::export as proved;
-use reference::ffi::pages::CountAnswer;
-use reference::ffi::{calendar as proved_calendar, pages as proved_pages};
 use reference::pages::{self as plain_pages, ShortMonth};
 use reference::refusal::{Refusal, NO_ROOM};
 use reference::writings::{pattern, MARGIN};
@@ -46,7 +47,7 @@ fn is_exported(book: &[u8], span: Span, choice: ShortMonth, file: &[u8]) {
 
 fn is_refused(book: &[u8], span: Span, choice: ShortMonth, room: usize, refusal: Refusal) {
     let (answer, bytes) = export(book, span, choice, room);
-    assert_eq!(answer, Err(refusal).into(), "{span:?}, room {room}");
+    assert_eq!(answer, Err(refusal).answer(), "{span:?}, room {room}");
     assert!(bytes == before(room), "a refusal changed the buffer");
 }
 
@@ -77,16 +78,16 @@ fn shows_the_page(book: &[u8], day: u16, choice: ShortMonth, file: &[u8]) {
         assert_eq!((line.start, line.alarm), (appointment.minute, appointment.flags & 1 == 1));
         assert_eq!(book[line.text.clone()], file[appointment.text.clone()]);
         if number < 8 {
-            assert_eq!(proved_pages::page_line(book, day, choice, number), Ok(line).into());
+            assert_eq!(proved_pages::page_line(book, day, choice, number), Ok(line).answer());
             let answer = proved_calendar::calendar_appointment(file, day, number);
-            assert_eq!(answer, Ok(appointment).into());
+            assert_eq!(answer, Ok(appointment).answer());
         }
     }
 }
 
 fn shows_the_pages(book: &[u8], span: Span, choice: ShortMonth, file: &[u8], step: usize) {
     let days = plain_calendar::read_calendar(file);
-    assert_eq!(proved_calendar::read_calendar(file), days.into());
+    assert_eq!(proved_calendar::read_calendar(file), days.answer());
     for day in (span.first..span.first + span.count).step_by(step) {
         shows_the_page(book, day, choice, file);
     }

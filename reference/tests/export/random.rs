@@ -1,6 +1,7 @@
 //! Exports of books made at random, small and of full size.
 
 use super::{compare, export, is_refused, shows_the_pages};
+use reference::answers::IntoAnswer;
 use reference::book::{self, LONGEST};
 use reference::books::{book_of_span, near, small, Cases, Draft, Field, File, Span};
 use reference::calendar;
@@ -77,7 +78,7 @@ fn every_room() {
             let (answer, bytes) = export(&book, span, choice, room);
             let mut expected = super::before(room);
             let result = plain::export(&book, span.first, span.count, choice, &mut expected);
-            assert_eq!(answer, result.into());
+            assert_eq!(answer, result.answer());
             assert_eq!(answer.number == 0, room >= file.len());
             assert!(bytes == expected, "room {room}");
         }

@@ -1,8 +1,9 @@
 //! Books, pages and searches written out by hand.
 
 use super::{compare_page, compare_record, count, found, is_refused, is_refused_day, none, prints};
+use apptbook::raw::pages::{self as proved, FallsAnswer, PageLineAnswer};
+use reference::answers::IntoAnswer;
 use reference::books::{small, Field, File};
-use reference::ffi::pages::{self as proved, FallsAnswer, PageLineAnswer};
 use reference::pages::ShortMonth::{Last, Skip};
 use reference::pages::CHOICES;
 use reference::refusal::{Refusal, NO_SUCH_NUMBER, OUT_OF_RANGE};
@@ -112,7 +113,7 @@ fn refusals_in_order() {
         is_refused(&WHOLE_CASE, 1, day, NO_SUCH_NUMBER);
         is_refused(&WHOLE_CASE, usize::MAX, day, NO_SUCH_NUMBER);
     }
-    assert_eq!(proved::page_line(&WHOLE_CASE, 4_821, Skip, 0), Err(NO_SUCH_NUMBER).into());
+    assert_eq!(proved::page_line(&WHOLE_CASE, 4_821, Skip, 0), Err(NO_SUCH_NUMBER).answer());
 }
 
 #[test]

@@ -4,7 +4,8 @@
 mod by_hand;
 mod random;
 
-use reference::ffi::pages::{self as proved, CountAnswer, OccurrenceAnswer};
+use apptbook::raw::pages::{self as proved, CountAnswer, OccurrenceAnswer};
+use reference::answers::IntoAnswer;
 use reference::pages::{self as plain, ShortMonth, CHOICES};
 use reference::printed;
 use reference::refusal::{Refusal, NO_ROOM, NO_SUCH_NUMBER};
@@ -47,7 +48,7 @@ fn prints(file: &[u8], day: u16, choice: ShortMonth, page: &[u8]) {
     }
     for room in [page.len() - 1, page.len() / 2, 0] {
         let (answer, bytes) = print(file, day, choice, room);
-        assert_eq!(answer, Err(NO_ROOM).into());
+        assert_eq!(answer, Err(NO_ROOM).answer());
         assert!(bytes == before(room), "a refusal changed the buffer");
     }
 }
@@ -55,9 +56,9 @@ fn prints(file: &[u8], day: u16, choice: ShortMonth, page: &[u8]) {
 /// Calls with this number and this day are to be refused in this way.
 fn is_refused(file: &[u8], number: usize, day: u16, refusal: Refusal) {
     for choice in CHOICES {
-        assert_eq!(proved::falls_on(file, number, day, choice), Err(refusal).into());
-        assert_eq!(proved::next_occurrence(file, number, day, choice), Err(refusal).into());
-        assert_eq!(proved::page_line(file, day, choice, number), Err(refusal).into());
+        assert_eq!(proved::falls_on(file, number, day, choice), Err(refusal).answer());
+        assert_eq!(proved::next_occurrence(file, number, day, choice), Err(refusal).answer());
+        assert_eq!(proved::page_line(file, day, choice, number), Err(refusal).answer());
     }
 }
 
@@ -67,10 +68,10 @@ fn is_refused_day(file: &[u8], day: u16, refusal: Refusal) {
         is_refused(file, number, day, refusal);
     }
     for choice in CHOICES {
-        assert_eq!(proved::page_lines(file, day, choice), Err(refusal).into());
-        assert_eq!(proved::page_length(file, day, choice), Err(refusal).into());
+        assert_eq!(proved::page_lines(file, day, choice), Err(refusal).answer());
+        assert_eq!(proved::page_length(file, day, choice), Err(refusal).answer());
         for room in [0, 100] {
-            assert_eq!(print(file, day, choice, room), (Err(refusal).into(), before(room)));
+            assert_eq!(print(file, day, choice, room), (Err(refusal).answer(), before(room)));
         }
     }
 }
@@ -82,11 +83,11 @@ fn compare_page(file: &[u8], day: u16, choice: ShortMonth, asked: impl Fn(usize)
     for (number, line) in lines.iter().enumerate() {
         if asked(number) || number + 1 == lines.len() {
             let answer = proved::page_line(file, day, choice, number);
-            assert_eq!(answer, Ok(line.clone()).into(), "line {number}");
+            assert_eq!(answer, Ok(line.clone()).answer(), "line {number}");
         }
     }
     for number in [lines.len(), lines.len() + 1, usize::MAX] {
-        assert_eq!(proved::page_line(file, day, choice, number), Err(NO_SUCH_NUMBER).into());
+        assert_eq!(proved::page_line(file, day, choice, number), Err(NO_SUCH_NUMBER).answer());
     }
     prints(file, day, choice, &printed::printed_page(file, day, choice).expect("a right book and day"));
     lines.len()
@@ -96,7 +97,7 @@ fn compare_page(file: &[u8], day: u16, choice: ShortMonth, asked: impl Fn(usize)
 fn compare_record(file: &[u8], record: usize, day: u16, choice: ShortMonth) {
     let show = || format!("record {record}, day {day}, {choice:?}, of {file:?}");
     let falls = plain::falls_on(file, record, day, choice);
-    assert_eq!(proved::falls_on(file, record, day, choice), falls.into(), "{}", show());
+    assert_eq!(proved::falls_on(file, record, day, choice), falls.answer(), "{}", show());
     let next = plain::next_occurrence(file, record, day, choice);
-    assert_eq!(proved::next_occurrence(file, record, day, choice), next.into(), "{}", show());
+    assert_eq!(proved::next_occurrence(file, record, day, choice), next.answer(), "{}", show());
 }

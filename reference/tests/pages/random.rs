@@ -1,10 +1,11 @@
 //! Books made at random, right and damaged ones, small and of full size.
 
 use super::{before, compare_page, compare_record, found, is_refused_day, none, print};
+use apptbook::raw::pages as proved;
+use reference::answers::IntoAnswer;
 use reference::book;
 use reference::books::{book_near, edge_day, near, small, Cases, Draft, Field, File};
 use reference::days::LAST_DAY;
-use reference::ffi::pages as proved;
 use reference::occurrences::occurrences;
 use reference::pages::ShortMonth::{Last, Skip};
 use reference::pages::{self as plain, CHOICES};
@@ -77,9 +78,9 @@ fn every_day_of_some_years() {
             for day in from..=(day + 400).min(LAST_DAY) {
                 for choice in CHOICES {
                     let falls = plain::falls_on(&file, 0, day, choice);
-                    assert_eq!(proved::falls_on(&file, 0, day, choice), falls.into(), "{day} {file:?}");
+                    assert_eq!(proved::falls_on(&file, 0, day, choice), falls.answer(), "{day} {file:?}");
                     let lines = plain::page_lines(&file, day, choice);
-                    assert_eq!(proved::page_lines(&file, day, choice), lines.into(), "{day} {file:?}");
+                    assert_eq!(proved::page_lines(&file, day, choice), lines.answer(), "{day} {file:?}");
                 }
             }
         }
@@ -184,7 +185,7 @@ fn every_room() {
         for room in 0..page.len() + 9 {
             let (answer, bytes) = print(&file, day, Last, room);
             let mut expected = before(room);
-            assert_eq!(answer, printed::print_page(&file, day, Last, &mut expected).into());
+            assert_eq!(answer, printed::print_page(&file, day, Last, &mut expected).answer());
             assert_eq!(answer.number == 0, room >= page.len());
             assert!(bytes == expected, "room {room}");
         }

@@ -4,14 +4,15 @@
 use super::chains::several_days;
 use super::writings::{lent, SETTINGS};
 use super::{again, hidden, kept, row, Cells, Row};
+use apptbook::raw::book::{BookAnswer, RecordAnswer};
+use apptbook::raw::calendar::DescriptorAnswer;
+use apptbook::raw::days::DayAnswer;
+use apptbook::raw::pages::CountAnswer;
+use apptbook::raw::writer::WriterAnswer;
+use apptbook::raw::{book, calendar, chains, days, writer};
 use reference::across_c::*;
+use reference::answers::{settings_of, state_of};
 use reference::day_chains::DayChains;
-use reference::ffi::book::{BookAnswer, RecordAnswer};
-use reference::ffi::calendar::DescriptorAnswer;
-use reference::ffi::days::DayAnswer;
-use reference::ffi::pages::CountAnswer;
-use reference::ffi::writer::WriterAnswer;
-use reference::ffi::{book, calendar, chains, days, writer};
 use reference::vectors::calendars::whole_case;
 use reference::vectors::WHOLE_CASE;
 use std::hint::black_box;
@@ -79,11 +80,11 @@ fn on_files() -> Vec<Row> {
 }
 
 fn on_chains() -> Vec<Row> {
-    let by_plain = black_box(check_chains as chains::CheckChains);
+    let by_plain = black_box(check_chains as CheckChains);
     let across = move |lent: &DayChains| {
         // SAFETY: it only reads what it is lent.
         lent.lent_to(|table, previous, next, kinds, minutes| unsafe {
-            chains::lent_to(by_plain, table, [previous, next, kinds, minutes])
+            lent_to(by_plain, table, [previous, next, kinds, minutes])
         })
     };
     let proved = |lent: &DayChains| lent.lent_to(chains::check_chains);
@@ -105,7 +106,7 @@ fn on_buffers() -> Vec<Row> {
             let across = lent(SETTINGS, move |settings, buffer| unsafe {
                 opening(settings, buffer.as_mut_ptr(), buffer.len())
             });
-            let from_rust = lent(SETTINGS.settings(), plain_open);
+            let from_rust = lent(settings_of(SETTINGS), plain_open);
             Cells { runs: [lent(SETTINGS, writer::open), across, from_rust], size: None }
         }),
         row("close", "both across C", CALLS, move || {
@@ -113,7 +114,7 @@ fn on_buffers() -> Vec<Row> {
             let across = lent(state, move |state, buffer| unsafe {
                 closing(state, buffer.as_mut_ptr(), buffer.len())
             });
-            let from_rust = lent(state.state(), plain_close);
+            let from_rust = lent(state_of(state), plain_close);
             Cells { runs: [lent(state, writer::close), across, from_rust], size: None }
         }),
     ]

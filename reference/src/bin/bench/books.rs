@@ -1,9 +1,9 @@
 //! Reading books: the case of 33 bytes, books of 65,535, and such with 127 fillers.
 
 use super::{again, hidden, kept, row, Cells, Row};
+use apptbook::raw::book as proved;
 use reference::book as plain;
 use reference::books::{long, small, Draft, File};
-use reference::ffi::book as proved;
 use reference::rng::Rng;
 use reference::vectors::fillers::filled;
 use reference::vectors::{every_kind, WHOLE_CASE};

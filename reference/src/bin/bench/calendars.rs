@@ -1,9 +1,9 @@
 //! Reading Calendar files: the case of 192 bytes, and files of 2,228,224.
 
 use super::{again, hidden, kept, row, Cells, Row};
+use apptbook::raw::calendar as proved;
 use reference::calendar as plain;
 use reference::calendars::full;
-use reference::ffi::calendar as proved;
 use reference::rng::Rng;
 use reference::vectors::calendars::whole_case;
 

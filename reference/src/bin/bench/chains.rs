@@ -1,9 +1,9 @@
 //! Judging day chains: none, few and as many records as there may be, in few and in many chains.
 
 use super::{again, hidden, kept, row, Cells, Row};
+use apptbook::raw::chains as proved;
 use reference::chains::{self as plain, APPOINTMENT, EVENT, MOST_RECORDS, NONE};
 use reference::day_chains::{of_one_kind, DayChains, Plan};
-use reference::ffi::chains as proved;
 use reference::rng::Rng;
 
 const CALLS: usize = 20;

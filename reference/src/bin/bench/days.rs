@@ -1,9 +1,9 @@
 //! Day arithmetic, over random days and dates.
 
 use super::{hidden, kept, row, Cells, Row, Run, Runs};
+use apptbook::raw::days as proved;
 use reference::civil;
 use reference::days::{self as plain, Date, FIRST_PSION_DAY, LAST_DAY, LAST_PSION_DAY};
-use reference::ffi::days as proved;
 use reference::halving;
 use reference::rng::Rng;
 use std::hint::black_box;

@@ -1,11 +1,11 @@
 //! Exports: the case, and books over 366 days.
 
 use super::{again, kept, row, Cells, Row, Run};
+use apptbook::raw::export as proved;
 use reference::book::{self, LONGEST};
 use reference::books::{book_of_span, near, small, Draft, Field, File, Span, CROWDED_SPAN};
 use reference::calendar;
 use reference::export as plain;
-use reference::ffi::export as proved;
 use reference::pages::ShortMonth::Skip;
 use reference::rng::Rng;
 use reference::vectors::WHOLE_CASE;

@@ -1,10 +1,10 @@
 //! Day pages and the next occurrence, with the choice skip.
 
 use super::{again, hidden, kept, row, Cells, Row, Run};
+use apptbook::raw::pages as proved;
 use reference::book::{self, LONGEST};
 use reference::books::{book_near, small, Field, File};
 use reference::days::LAST_DAY;
-use reference::ffi::pages as proved;
 use reference::occurrences::soonest;
 use reference::pages::ShortMonth::Skip;
 use reference::pages::{self as plain, Search};

@@ -1,10 +1,11 @@
 //! Writing: each call by itself, and whole books.
 
 use super::{again, kept, row, Cells, Row, Run};
+use apptbook::raw::book::BookAnswer;
+use apptbook::raw::writer as proved;
+use reference::answers::{entry_of, settings_of, state_of};
 use reference::book::{Settings, LONGEST};
 use reference::books::{letters, long, small, Draft};
-use reference::ffi::book::BookAnswer;
-use reference::ffi::writer as proved;
 use reference::refusal::Refusal;
 use reference::rng::Rng;
 use reference::writer::{self as plain, NewRecord, Writer};
@@ -54,7 +55,7 @@ pub fn lent<I: Copy + 'static, O>(input: I, call: impl Fn(I, &mut [u8]) -> O + '
 
 fn opening() -> Cells {
     let open = hidden_calls().0;
-    let by_plain = lent(SETTINGS.settings(), move |settings, buffer| open(settings, buffer).expect("room"));
+    let by_plain = lent(settings_of(SETTINGS), move |settings, buffer| open(settings, buffer).expect("room"));
     Cells { runs: [lent(SETTINGS, proved::open), by_plain, None], size: None }
 }
 
@@ -64,16 +65,20 @@ fn adding(item: &'static Item) -> Cells {
     let state = proved::open(SETTINGS, &mut [0; 15]);
     let by_proved =
         lent(item, move |item, buffer| proved::add(state, buffer, item.record, &item.text, &item.note));
-    let record =
-        NewRecord { flag: item.record.flag, entry: item.record.entry(), text: &item.text, note: &item.note };
-    let by_plain = lent(record, move |record, buffer| add(state.state(), buffer, record).expect("room"));
+    let record = NewRecord {
+        flag: item.record.flag,
+        entry: entry_of(item.record),
+        text: &item.text,
+        note: &item.note,
+    };
+    let by_plain = lent(record, move |record, buffer| add(state_of(state), buffer, record).expect("room"));
     Cells { runs: [by_proved, by_plain, None], size: Some((item.bytes.len(), "byte written")) }
 }
 
 fn closing() -> Cells {
     let close = hidden_calls().2;
     let state = proved::open(SETTINGS, &mut [0; 15]);
-    let by_plain = lent(state.state(), move |state, buffer| close(state, buffer).expect("room"));
+    let by_plain = lent(state_of(state), move |state, buffer| close(state, buffer).expect("room"));
     Cells { runs: [lent(state, proved::close), by_plain, None], size: None }
 }
 
@@ -96,9 +101,9 @@ fn by_proved(items: &[Item], buffer: &mut [u8]) -> usize {
 fn by_plain(items: &[Item], buffer: &mut [u8]) -> usize {
     let (open, add, close) = hidden_calls();
     let write = |buffer: &mut [u8]| {
-        let mut state = open(SETTINGS.settings(), buffer)?;
+        let mut state = open(settings_of(SETTINGS), buffer)?;
         for Item { record, text, note, .. } in items {
-            let record = NewRecord { flag: record.flag, entry: record.entry(), text, note };
+            let record = NewRecord { flag: record.flag, entry: entry_of(*record), text, note };
             state = add(state, buffer, record)?;
         }
         close(state, buffer)

@@ -1,12 +1,12 @@
 //! What is measured: calls of the proved library, each for any size.
 
 use super::Axis;
+use apptbook::raw::{book, chains, export, pages};
 use reference::books::{small, Draft, Field, File};
 use reference::callgrind::Run;
 use reference::chains::APPOINTMENT;
 use reference::civil;
 use reference::day_chains::of_one_kind;
-use reference::ffi::{book, chains, export, pages};
 use reference::pages::ShortMonth::Skip;
 use reference::rng::Rng;
 use reference::{book as plain_book, calendar};

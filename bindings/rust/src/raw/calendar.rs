@@ -1,14 +1,12 @@
-//! The Calendar reader of the proved library.
+//! The Calendar reader.
 
 use super::pages::CountAnswer;
-use crate::calendar::{Appointment, Descriptor};
-use crate::refusal::Refusal;
 
 unsafe extern "C" {
-    fn apptbook_read_calendar(file: *const u8, len: usize) -> CountAnswer;
-    fn apptbook_calendar_day(file: *const u8, len: usize, number: usize) -> DescriptorAnswer;
-    fn apptbook_calendar_appointments(file: *const u8, len: usize, day: u16) -> CountAnswer;
-    fn apptbook_calendar_appointment(
+    pub fn apptbook_read_calendar(file: *const u8, len: usize) -> CountAnswer;
+    pub fn apptbook_calendar_day(file: *const u8, len: usize, descriptor: usize) -> DescriptorAnswer;
+    pub fn apptbook_calendar_appointments(file: *const u8, len: usize, day: u16) -> CountAnswer;
+    pub fn apptbook_calendar_appointment(
         file: *const u8,
         len: usize,
         day: u16,
@@ -16,21 +14,23 @@ unsafe extern "C" {
     ) -> AppointmentAnswer;
 }
 
-// SAFETY of all four: the slice's bytes are there, and the library only reads them.
-
 pub fn read_calendar(file: &[u8]) -> CountAnswer {
+    // SAFETY: the slice's bytes are there, and the library only reads them.
     unsafe { apptbook_read_calendar(file.as_ptr(), file.len()) }
 }
 
-pub fn calendar_day(file: &[u8], number: usize) -> DescriptorAnswer {
-    unsafe { apptbook_calendar_day(file.as_ptr(), file.len(), number) }
+pub fn calendar_day(file: &[u8], descriptor: usize) -> DescriptorAnswer {
+    // SAFETY: the slice's bytes are there, and the library only reads them.
+    unsafe { apptbook_calendar_day(file.as_ptr(), file.len(), descriptor) }
 }
 
 pub fn calendar_appointments(file: &[u8], day: u16) -> CountAnswer {
+    // SAFETY: the slice's bytes are there, and the library only reads them.
     unsafe { apptbook_calendar_appointments(file.as_ptr(), file.len(), day) }
 }
 
 pub fn calendar_appointment(file: &[u8], day: u16, appointment: usize) -> AppointmentAnswer {
+    // SAFETY: the slice's bytes are there, and the library only reads them.
     unsafe { apptbook_calendar_appointment(file.as_ptr(), file.len(), day, appointment) }
 }
 
@@ -53,14 +53,3 @@ pub struct AppointmentAnswer {
     pub minute: u16,
     pub flags: u16,
 }
-
-answer_of_result!(DescriptorAnswer, Descriptor, descriptor => {
-    day: descriptor.day,
-    offset: descriptor.offset,
-});
-answer_of_result!(AppointmentAnswer, Appointment, appointment => {
-    text_at: appointment.text.start,
-    text_length: appointment.text.len(),
-    minute: appointment.minute,
-    flags: appointment.flags,
-});

@@ -1,12 +1,10 @@
-//! The book writer of the proved library.
+//! The book writer.
 
 use super::book::{BookAnswer, RecordAnswer};
-use crate::refusal::Refusal;
-use crate::writer::Writer;
 
 unsafe extern "C" {
-    fn apptbook_open(settings: BookAnswer, buffer: *mut u8, len: usize) -> WriterAnswer;
-    fn apptbook_add(
+    pub fn apptbook_open(settings: BookAnswer, buffer: *mut u8, len: usize) -> WriterAnswer;
+    pub fn apptbook_add(
         state: WriterAnswer,
         buffer: *mut u8,
         len: usize,
@@ -16,13 +14,11 @@ unsafe extern "C" {
         note: *const u8,
         note_len: usize,
     ) -> WriterAnswer;
-    fn apptbook_close(state: WriterAnswer, buffer: *mut u8, len: usize) -> WriterAnswer;
+    pub fn apptbook_close(state: WriterAnswer, buffer: *mut u8, len: usize) -> WriterAnswer;
 }
 
-// SAFETY of all three: the slices' bytes are there, the buffer's are lent to no one else, and the library
-// only reads the text's and the note's.
-
 pub fn open(settings: BookAnswer, buffer: &mut [u8]) -> WriterAnswer {
+    // SAFETY: the slice's bytes are there and lent to no one else.
     unsafe { apptbook_open(settings, buffer.as_mut_ptr(), buffer.len()) }
 }
 
@@ -34,10 +30,13 @@ pub fn add(
     note: &[u8],
 ) -> WriterAnswer {
     let (at, len) = (buffer.as_mut_ptr(), buffer.len());
+    // SAFETY: the slices' bytes are there, the buffer's are lent to no one else, and the library only reads the
+    // text's and the note's.
     unsafe { apptbook_add(state, at, len, record, text.as_ptr(), text.len(), note.as_ptr(), note.len()) }
 }
 
 pub fn close(state: WriterAnswer, buffer: &mut [u8]) -> WriterAnswer {
+    // SAFETY: the slice's bytes are there and lent to no one else.
     unsafe { apptbook_close(state, buffer.as_mut_ptr(), buffer.len()) }
 }
 
@@ -49,20 +48,4 @@ pub struct WriterAnswer {
     pub place: usize,
     pub used: usize,
     pub closed: bool,
-}
-
-impl WriterAnswer {
-    /// What the reference's result comes over as. `before`: the state as it came, which a refusal gives back.
-    pub fn new(result: Result<Writer, Refusal>, before: Writer) -> Self {
-        let (refusal, state) = match result {
-            Ok(state) => (Refusal { number: 0, place: 0 }, state),
-            Err(refusal) => (refusal, before),
-        };
-        let (Refusal { number, place }, Writer { used, closed }) = (refusal, state);
-        WriterAnswer { number, place, used, closed }
-    }
-
-    pub fn state(self) -> Writer {
-        Writer { used: self.used, closed: self.closed }
-    }
 }

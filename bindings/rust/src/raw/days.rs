@@ -1,7 +1,4 @@
-//! Day arithmetic of the proved library.
-
-use crate::days::{Date, Facts};
-use crate::refusal::Refusal;
+//! Day arithmetic.
 
 // Numbers and structs of numbers go over by value, so every call is safe.
 unsafe extern "C" {
@@ -71,16 +68,3 @@ pub struct FactsAnswer {
     pub weekday: u16,
     pub month_length: u16,
 }
-
-answer_of_result!(LengthAnswer, u16, length => { length: length });
-answer_of_result!(DayAnswer, u16, day => { day: day });
-answer_of_result!(DateAnswer, Date, date => { year: date.year, month: date.month, day: date.day });
-answer_of_result!(WeekdayAnswer, u16, weekday => { weekday: weekday });
-answer_of_result!(FactsAnswer, Facts, facts => {
-    calendar_day: facts.calendar_day,
-    year: facts.date.year,
-    month: facts.date.month,
-    day: facts.date.day,
-    weekday: facts.weekday,
-    month_length: facts.month_length
-});
