@@ -21,6 +21,12 @@
 #include <stddef.h>
 #include <stdint.h>
 
+/*
+ * Of this header and its library: raised whenever a call is added or changed, so that a caller can compare it by #if.
+ * 1: the first calls. 2: apptbook_check_chains.
+ */
+#define APPTBOOK_VERSION 2
+
 #ifdef __cplusplus
 extern "C" {
 #endif

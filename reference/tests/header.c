@@ -3,6 +3,10 @@
 
 #include <stdio.h>
 
+#if APPTBOOK_VERSION < 2
+#error "a version that the preprocessor can compare"
+#endif
+
 static void print_day(const char *name, apptbook_day_answer r) {
     printf("%s %u %zu %u\n", name, (unsigned)r.number, r.place, (unsigned)r.day);
 }
@@ -31,6 +35,7 @@ int main(void) {
     apptbook_date_answer date = apptbook_date_of_day(4822);
     apptbook_weekday_answer weekday = apptbook_weekday(4822);
 
+    printf("version %d\n", APPTBOOK_VERSION);
     print_refusals();
     printf("sizes %zu %zu %zu %zu %zu\n", sizeof length, sizeof(apptbook_day_answer), sizeof date,
            sizeof weekday, sizeof(apptbook_facts_answer));

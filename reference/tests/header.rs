@@ -13,7 +13,7 @@ fn expected() -> String {
         size_of::<FactsAnswer>(),
     ];
     let sizes = sizes.map(|size| size.to_string()).join(" ");
-    format!("{REFUSALS}sizes {sizes}\n{CALLS}")
+    format!("version {}\n{REFUSALS}sizes {sizes}\n{CALLS}", apptbook::VERSION)
 }
 
 const REFUSALS: &str = "refusals 0 1 2 3 4 5 6 7 8 9 10 11 12 13 14 20 21 22 23 24 30 31 32 33\n";

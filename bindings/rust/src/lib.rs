@@ -47,3 +47,6 @@ pub use pages::{
 pub use records::{Entry, Record, Rule, Times};
 pub use refusals::Refusal;
 pub use writer::{add, close, open, Writer};
+
+/// `APPTBOOK_VERSION` of the header that this crate follows: raised whenever a call is added or changed.
+pub const VERSION: u32 = 2;
