@@ -8,7 +8,7 @@ use Rattle.prelude.specs.Bytes.{stretchBytes}
 use Rattle.prelude.specs.Refusals.{bookTooLong, notABook, badSettings, noSuchNumber, refusal, refusalAt}
 use Rattle.prelude.specs.declared.refusals.Verdict.{Verdict}
 use Rattle.records.specs.Fields.{recordOf, fixedOf, textLength, noteLength}
-use Rattle.book.specs.Settings.{identified, settingsOf, settingsOk}
+use Rattle.book.specs.Settings.{bookIdentified, settingsOf, settingsOk}
 use Rattle.book.specs.Walk.{Walk, more, ended, stopped, typeAt, bodyAt, walkOf, placesIn}
 use Rattle.book.specs.Fillers.{afterEndRecord}
 use Rattle.book.specs.declared.types.Settings.{Settings}
@@ -29,7 +29,7 @@ counted f n (stopped e) = BookAnswer.Refused e
 unfoldable pub bookOf : List ℕ → BookAnswer
 bookOf f =
     ifLt 65535 (length f) (BookAnswer.Refused (refusal bookTooLong))
-    (ifB (identified f)
+    (ifB (bookIdentified f)
     (ifB (settingsOk f) (counted f 0 (walkOf f)) (BookAnswer.Refused (refusalAt badSettings 5)))
     (BookAnswer.Refused (refusal notABook)))
 
@@ -64,10 +64,10 @@ unfoldable pub recordAnswer : List ℕ → ℕ → RecordAnswer
 recordAnswer f k = recordFrom f k (bookOf f)
 
 -- a record's text and note as stretches of the file; nothing where there is no such record
-unfoldable pub textIn : List ℕ → RecordAnswer → List ℕ
-textIn f (RecordAnswer.Record e) = stretchBytes f (e .text)
-textIn f (RecordAnswer.Refused r) = []
+unfoldable pub recordTextIn : List ℕ → RecordAnswer → List ℕ
+recordTextIn f (RecordAnswer.Record e) = stretchBytes f (e .text)
+recordTextIn f (RecordAnswer.Refused r) = []
 
-unfoldable pub noteIn : List ℕ → RecordAnswer → List ℕ
-noteIn f (RecordAnswer.Record e) = stretchBytes f (e .note)
-noteIn f (RecordAnswer.Refused r) = []
+unfoldable pub recordNoteIn : List ℕ → RecordAnswer → List ℕ
+recordNoteIn f (RecordAnswer.Record e) = stretchBytes f (e .note)
+recordNoteIn f (RecordAnswer.Refused r) = []

@@ -7,8 +7,8 @@ use Rattle.prelude.specs.Choice.{ifLt}
 use Rattle.prelude.specs.Bytes.{stretchBytes}
 use Rattle.prelude.specs.Refusals.{noSuchNumber, refusal}
 use Rattle.prelude.specs.declared.slices.Stretch.{Stretch}
-use Rattle.notes.specs.Notes.{linesOf}
-use Rattle.notes.specs.Lines.{lineStart, lineLength}
+use Rattle.texts.specs.Notes.{linesOf}
+use Rattle.texts.specs.Lines.{lineStart, lineLength}
 use Rattle.book.specs.Books.{recordAnswer}
 use Rattle.book.specs.declared.types.RecordAnswer.{RecordAnswer}
 use Rattle.book.specs.declared.types.LinesAnswer.{LinesAnswer}
@@ -28,16 +28,16 @@ unfoldable pub linesAnswer : List ℕ → ℕ → LinesAnswer
 linesAnswer f k = linesIn f (noteFrom (recordAnswer f k))
 
 -- line j of a note, as a stretch of the file
-unfoldable pub lineOf : List ℕ → ℕ → Stretch → StretchAnswer
-lineOf f j s =
+unfoldable pub noteLineOf : List ℕ → ℕ → Stretch → StretchAnswer
+noteLineOf f j s =
     ifLt j (length (linesOf (stretchBytes f s)))
     (StretchAnswer.Stretch
     (record { place = s .place + lineStart (stretchBytes f s) j; length = lineLength (stretchBytes f s) j }))
     (StretchAnswer.Refused (refusal noSuchNumber))
 
-unfoldable pub lineIn : List ℕ → ℕ → StretchAnswer → StretchAnswer
-lineIn f j (StretchAnswer.Stretch s) = lineOf f j s
-lineIn f j (StretchAnswer.Refused r) = StretchAnswer.Refused r
+unfoldable pub noteLineIn : List ℕ → ℕ → StretchAnswer → StretchAnswer
+noteLineIn f j (StretchAnswer.Stretch s) = noteLineOf f j s
+noteLineIn f j (StretchAnswer.Refused r) = StretchAnswer.Refused r
 
 unfoldable pub lineAnswer : List ℕ → ℕ → ℕ → StretchAnswer
-lineAnswer f k j = lineIn f j (noteFrom (recordAnswer f k))
+lineAnswer f k j = noteLineIn f j (noteFrom (recordAnswer f k))

@@ -1,4 +1,4 @@
--- One book in two files, stated: what every call on a book goes by is the same in both. `SameBookLaws` proves it of a book with and without fillers.
+-- One book in two files, stated: what every call on a book goes by is the same in both. `Laws.SameBook` proves it of a book with and without fillers.
 -- Assumes nothing.
 use Prim.Native.Nat.{ℕ}
 use mathlib.Core.Path.{_≡_}

@@ -10,12 +10,12 @@ use Rattle.prelude.specs.Bytes.{byte, word}
 use Rattle.book.specs.declared.types.Settings.{Settings}
 
 -- "Identification, 5 bytes: FF FF 01 00 01." A missing byte counts as 0, so the fifth is missing from a file of fewer than five.
-unfoldable pub sameBytes : ℕ → ℕ → ℕ → ℕ → ℕ → Bool
-sameBytes a b c d e =
+unfoldable pub bookMark : ℕ → ℕ → ℕ → ℕ → ℕ → Bool
+bookMark a b c d e =
     ifEq a 0xFF (ifEq b 0xFF (ifEq c 0x01 (ifEq d 0x00 (ifEq e 0x01 true false) false) false) false) false
 
-unfoldable pub identified : List ℕ → Bool
-identified f = sameBytes (byte f 0) (byte f 1) (byte f 2) (byte f 3) (byte f 4)
+unfoldable pub bookIdentified : List ℕ → Bool
+bookIdentified f = bookMark (byte f 0) (byte f 1) (byte f 2) (byte f 3) (byte f 4)
 
 -- "Settings, 7 bytes: display start minute 0..1,439; granularity 1..720 (house); .. lead time 0..30 (house)"
 unfoldable pub settingsInRange : Settings → Bool

@@ -14,15 +14,15 @@ use Rattle.book.specs.declared.types.StepAnswer.{StepAnswer}
 abbrev pub typeAt : List ℕ → ℕ → ℕ
 typeAt f at = byte f at
 
-abbrev pub lengthAt : List ℕ → ℕ → ℕ
-lengthAt f at = word f (at + 1)
+abbrev pub bodyLengthAt : List ℕ → ℕ → ℕ
+bodyLengthAt f at = word f (at + 1)
 
 -- "The body of a record is judged as that stretch of the file and nothing beyond it."
 abbrev pub bodyAt : List ℕ → ℕ → List ℕ
-bodyAt f at = part f (at + 3) (lengthAt f at)
+bodyAt f at = part f (at + 3) (bodyLengthAt f at)
 
 abbrev pub nextPlace : List ℕ → ℕ → ℕ
-nextPlace f at = at + 3 + lengthAt f at
+nextPlace f at = at + 3 + bodyLengthAt f at
 
 -- "three head bytes (4), 5, body (4)": the refusal's number of a head of type t and length l at a place, or 0
 unfoldable pub judgeHead : ℕ → ℕ → ℕ → ℕ → ℕ
@@ -32,14 +32,14 @@ judgeHead size at t l =
     (ifLt t 1 unknownType (ifLt 6 t unknownType (ifLt size (at + 3 + l) cutShort 0))))
 
 -- "Type 50 with L = 0 ends the book"; any other record goes on where its L bytes end
-unfoldable pub judged : ℕ → ℕ → ℕ → StepAnswer
-judged n at next = ifEq n 0 (StepAnswer.Record next) (StepAnswer.Stopped (refusalAt n at))
+unfoldable pub bodyStep : ℕ → ℕ → ℕ → StepAnswer
+bodyStep n at next = ifEq n 0 (StepAnswer.Record next) (StepAnswer.Stopped (refusalAt n at))
 
 unfoldable pub stepAt : List ℕ → ℕ → StepAnswer
 stepAt f at =
-    ifEq (judgeHead (length f) at (typeAt f at) (lengthAt f at)) 0
-    (ifEq (typeAt f at) 50 StepAnswer.End (judged (judgeBody (typeAt f at) (bodyAt f at)) at (nextPlace f at)))
-    (StepAnswer.Stopped (refusalAt (judgeHead (length f) at (typeAt f at) (lengthAt f at)) at))
+    ifEq (judgeHead (length f) at (typeAt f at) (bodyLengthAt f at)) 0
+    (ifEq (typeAt f at) 50 StepAnswer.End (bodyStep (judgeBody (typeAt f at) (bodyAt f at)) at (nextPlace f at)))
+    (StepAnswer.Stopped (refusalAt (judgeHead (length f) at (typeAt f at) (bodyLengthAt f at)) at))
 
 -- what is met from a place on: records, and then the end record or a refusal
 pub data Walk : Type 0 where

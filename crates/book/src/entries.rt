@@ -3,9 +3,9 @@ ghost use mathlib.Core.Path.{_≡_};
 ghost use Prim.Native.Nat.{_<_, _≤_};
 ghost use lib.ListN.{length, getD};
 ghost use Rattle.book.specs.Walk.{nextPlace, bodyAt};
-ghost use Rattle.book.specs.Books.{entryAt, placesOf, recordFrom, recordAnswer, textIn, noteIn};
-ghost use Rattle.book.specs.BookLaws.{AcceptedBook};
-ghost use Rattle.book.specs.WalkLaws.{RecordAt};
+ghost use Rattle.book.specs.Books.{entryAt, placesOf, recordFrom, recordAnswer, recordTextIn, recordNoteIn};
+ghost use Rattle.book.specs.Invariants.{AcceptedBook};
+ghost use Rattle.book.specs.Invariants.{RecordAt};
 use crate::reading::read_book;
 use crate::types::Book;
 use crate::types::BookAnswer;
@@ -129,7 +129,7 @@ pub fn record_at(file: &[u8], k: usize) -> RecordAnswer
 
 // The text of a record, as that stretch of the caller's file; nothing where there is no such record.
 pub fn text_at(file: &[u8], k: usize) -> &[u8]
-    ensures { λ r. ⌜ now r ≡ textIn (now (file .entry)) (recordAnswer (now (file .entry)) k) ⌝ }
+    ensures { λ r. ⌜ now r ≡ recordTextIn (now (file .entry)) (recordAnswer (now (file .entry)) k) ⌝ }
 {
     let a = record_at(file, k);
     match a {
@@ -140,7 +140,7 @@ pub fn text_at(file: &[u8], k: usize) -> &[u8]
 
 // Its note, in the same way.
 pub fn note_at(file: &[u8], k: usize) -> &[u8]
-    ensures { λ r. ⌜ now r ≡ noteIn (now (file .entry)) (recordAnswer (now (file .entry)) k) ⌝ }
+    ensures { λ r. ⌜ now r ≡ recordNoteIn (now (file .entry)) (recordAnswer (now (file .entry)) k) ⌝ }
 {
     let a = record_at(file, k);
     match a {

@@ -3,8 +3,8 @@ ghost use mathlib.Core.Path.{_≡_};
 ghost use Prim.Native.Nat.{_+_, _≤_};
 ghost use lib.ListN.{length};
 ghost use Rattle.book.specs.Books.{recordFrom, recordAnswer};
-ghost use Rattle.book.specs.Lines.{noteFrom, linesAnswer, lineOf, lineAnswer};
-ghost use Rattle.book.specs.BookLaws.{AcceptedBook};
+ghost use Rattle.book.specs.Lines.{noteFrom, linesAnswer, noteLineOf, lineAnswer};
+ghost use Rattle.book.specs.Invariants.{AcceptedBook};
 use crate::entries::place_of;
 use crate::entries::texts_at;
 use crate::reading::read_book;
@@ -12,12 +12,12 @@ use crate::types::Book;
 use crate::types::BookAnswer;
 use crate::types::LinesAnswer;
 use crate::types::StretchAnswer;
-use notes::lines::line_at;
-use notes::lines::line_count;
 use prelude::refusals::NO_SUCH_NUMBER;
 use prelude::refusals::Refusal;
 use prelude::slices::Stretch;
 use prelude::slices::part;
+use texts::lines::line_at;
+use texts::lines::line_count;
 
 fn note_in(file: &[u8], k: usize, b: Book) -> StretchAnswer
     requires { ⌜ AcceptedBook (now file) b ⌝ }
@@ -59,7 +59,7 @@ pub fn note_lines(file: &[u8], k: usize) -> LinesAnswer
 
 fn line_in(file: &[u8], j: usize, s: Stretch) -> StretchAnswer
     requires { ⌜ s .place + s .length ≤ length (now file) ⌝ }
-    ensures { λ r. ⌜ r ≡ lineOf (now (file .entry)) j s ⌝ }
+    ensures { λ r. ⌜ r ≡ noteLineOf (now (file .entry)) j s ⌝ }
 {
     let place = s.place;
     let note = part(file, place, s.length);

@@ -1,6 +1,6 @@
 // A book's first twelve bytes: identification and settings.
 ghost use mathlib.Core.Path.{_≡_};
-ghost use Rattle.book.specs.Settings.{identified, settingsInRange, settingsOf, flagsOk, settingsOk, sameBytes};
+ghost use Rattle.book.specs.Settings.{bookIdentified, settingsInRange, settingsOf, flagsOk, settingsOk, bookMark};
 use crate::types::Settings;
 use days::types::Minute;
 use prelude::numbers::wide;
@@ -8,7 +8,7 @@ use prelude::slices::byte;
 use prelude::slices::word;
 
 fn same_bytes(a: u8, b: u8, c: u8, d: u8, e: u8) -> bool
-    ensures { λ r. ⌜ r ≡ sameBytes a b c d e ⌝ }
+    ensures { λ r. ⌜ r ≡ bookMark a b c d e ⌝ }
 {
     if a != 0xFF {
         return false;
@@ -29,7 +29,7 @@ fn same_bytes(a: u8, b: u8, c: u8, d: u8, e: u8) -> bool
 }
 
 pub fn is_identified(file: &[u8]) -> bool
-    ensures { λ r. ⌜ r ≡ identified (now (file .entry)) ⌝ }
+    ensures { λ r. ⌜ r ≡ bookIdentified (now (file .entry)) ⌝ }
 {
     let a = byte(file, 0);
     let b = byte(file, 1);

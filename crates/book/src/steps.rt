@@ -2,7 +2,7 @@
 ghost use mathlib.Core.Path.{_≡_};
 ghost use Prim.Native.Nat.{_+_, _≤_};
 ghost use lib.ListN.{length};
-ghost use Rattle.book.specs.Walk.{judgeHead, judged, stepAt};
+ghost use Rattle.book.specs.Walk.{judgeHead, bodyStep, stepAt};
 use crate::types::StepAnswer;
 use prelude::refusals::CUT_SHORT;
 use prelude::refusals::Refusal;
@@ -34,7 +34,7 @@ fn judge_head(size: usize, at: usize, t: u8, l: usize) -> u32
 }
 
 fn judged_at(n: u32, at: usize, next: usize) -> StepAnswer
-    ensures { λ r. ⌜ r ≡ judged n at next ⌝ }
+    ensures { λ r. ⌜ r ≡ bodyStep n at next ⌝ }
 {
     if n == 0 {
         return StepAnswer::Record(next);

@@ -5,6 +5,7 @@ ghost use Rattle.export.specs.Export.{exportAnswer, exportLeaves, showsUnder};
 ghost use Rattle.marshal.specs.PageAnswers.{choiceOf};
 ghost use Rattle.marshal.specs.CalendarAnswers.{exportOut};
 use days::types::CalendarDay;
+use falls::types::ShortMonth;
 use marshal::calendar_answers::export_out;
 use marshal::page_answers::CountOut;
 use marshal::page_answers::choice_of;
@@ -22,7 +23,7 @@ pub extern "C" fn apptbook_export(
     ensures leaves { λ _.
         ⌜ now (buffer .exit) ≡ exportLeaves (showsUnder (choiceOf last)) (now (file .entry)) first count (now (buffer .entry)) ⌝ }
 {
-    let c = choice_of(last);
+    let c: ShortMonth = choice_of(last);
     let n = CalendarDay(first);
-    export_out(exporting::calls::export(file, n, count, c, buffer))
+    export_out(export::calls::export(file, n, count, c, buffer))
 }

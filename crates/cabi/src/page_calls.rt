@@ -1,10 +1,11 @@
 // Day pages, lent and printed, and the next occurrence.
 ghost use mathlib.Core.Path.{_≡_};
 ghost use lib.ListN.{length};
-ghost use Rattle.pages.specs.Answers.{validated, fallsIn, countIn, lineIn, nextIn};
-ghost use Rattle.printing.specs.Answers.{lengthIn, printIn, printLeaves};
+ghost use Rattle.pages.specs.Answers.{validated, fallsIn, pageCountIn, pageLineIn, nextIn};
+ghost use Rattle.printing.specs.Answers.{pageLengthIn, printIn, printLeaves};
 ghost use Rattle.marshal.specs.PageAnswers.{choiceOf, dayOf, fallsOut, countOut, pageLineOut, nextOut};
 use days::types::CalendarDay;
+use falls::types::ShortMonth;
 use marshal::page_answers::CountOut;
 use marshal::page_answers::FallsOut;
 use marshal::page_answers::OccurrenceOut;
@@ -20,16 +21,16 @@ pub extern "C" fn apptbook_falls_on(file: &[u8], record: usize, day: u16, last: 
     ensures { λ r.
         ⌜ r ≡ fallsOut (fallsIn (now (file .entry)) (choiceOf last) «record» (validated (now (file .entry)) (dayOf day))) ⌝ }
 {
-    let c = choice_of(last);
+    let c: ShortMonth = choice_of(last);
     let n = CalendarDay(day);
     falls_out(pages::next::record_falls(file, record, n, c))
 }
 
 #[no_mangle]
 pub extern "C" fn apptbook_page_lines(file: &[u8], day: u16, last: bool) -> CountOut
-    ensures { λ r. ⌜ r ≡ countOut (countIn (now (file .entry)) (choiceOf last) (validated (now (file .entry)) (dayOf day))) ⌝ }
+    ensures { λ r. ⌜ r ≡ countOut (pageCountIn (now (file .entry)) (choiceOf last) (validated (now (file .entry)) (dayOf day))) ⌝ }
 {
-    let c = choice_of(last);
+    let c: ShortMonth = choice_of(last);
     let n = CalendarDay(day);
     count_out(pages::lines::page_lines(file, n, c))
 }
@@ -37,9 +38,9 @@ pub extern "C" fn apptbook_page_lines(file: &[u8], day: u16, last: bool) -> Coun
 #[no_mangle]
 pub extern "C" fn apptbook_page_line(file: &[u8], day: u16, last: bool, line: usize) -> PageLineOut
     ensures { λ r.
-        ⌜ r ≡ pageLineOut (lineIn (now (file .entry)) (choiceOf last) line (validated (now (file .entry)) (dayOf day))) ⌝ }
+        ⌜ r ≡ pageLineOut (pageLineIn (now (file .entry)) (choiceOf last) line (validated (now (file .entry)) (dayOf day))) ⌝ }
 {
-    let c = choice_of(last);
+    let c: ShortMonth = choice_of(last);
     let n = CalendarDay(day);
     page_line_out(pages::lines::line_at(file, n, c, line))
 }
@@ -54,16 +55,16 @@ pub extern "C" fn apptbook_next_occurrence(
     ensures { λ r.
         ⌜ r ≡ nextOut (nextIn (now (file .entry)) (choiceOf last) «record» (validated (now (file .entry)) (dayOf day))) ⌝ }
 {
-    let c = choice_of(last);
+    let c: ShortMonth = choice_of(last);
     let n = CalendarDay(day);
     next_out(pages::next::next_occurrence(file, record, n, c))
 }
 
 #[no_mangle]
 pub extern "C" fn apptbook_page_length(file: &[u8], day: u16, last: bool) -> CountOut
-    ensures { λ r. ⌜ r ≡ countOut (lengthIn (now (file .entry)) (choiceOf last) (validated (now (file .entry)) (dayOf day))) ⌝ }
+    ensures { λ r. ⌜ r ≡ countOut (pageLengthIn (now (file .entry)) (choiceOf last) (validated (now (file .entry)) (dayOf day))) ⌝ }
 {
-    let c = choice_of(last);
+    let c: ShortMonth = choice_of(last);
     let n = CalendarDay(day);
     count_out(printing::calls::page_length(file, n, c))
 }
@@ -80,7 +81,7 @@ pub extern "C" fn apptbook_print_page(
     ensures leaves { λ _.
         ⌜ now (buffer .exit) ≡ printLeaves (now (file .entry)) (choiceOf last) (now (buffer .entry)) (validated (now (file .entry)) (dayOf day)) ⌝ }
 {
-    let c = choice_of(last);
+    let c: ShortMonth = choice_of(last);
     let n = CalendarDay(day);
     count_out(printing::calls::print_page(file, n, c, buffer))
 }

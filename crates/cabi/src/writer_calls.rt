@@ -12,6 +12,7 @@ use marshal::record_arguments::record_in;
 use marshal::writer_states::WriterOut;
 use marshal::writer_states::writer_in;
 use marshal::writer_states::writer_out;
+use records::types::Record;
 
 #[no_mangle]
 pub extern "C" fn apptbook_open(settings: BookOut, buffer: &mut [u8]) -> WriterOut
@@ -34,7 +35,7 @@ pub extern "C" fn apptbook_add(
     ensures leaves { λ _. ⌜ now (buffer .exit) ≡ addLeaves (writerIn state) (now (buffer .entry)) (recordIn «record») (now (text .entry)) (now (note .entry)) ⌝ }
 {
     let w = writer_in(state);
-    let r = record_in(record);
+    let r: Record = record_in(record);
     writer_out(writer::calls::add_record(w, buffer, r, text, note))
 }
 

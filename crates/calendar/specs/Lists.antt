@@ -42,29 +42,29 @@ appointmentOk f e low at =
     (textEnds f at (sizeAt f at))))))
 
 -- what is met from a place on: appointments, and then the list's end or a place where none stands
-pub data Walk : Type 0 where
-  more : ℕ → Walk → Walk
-  ended : Walk
-  stopped : ℕ → Walk
+pub data ListWalk : Type 0 where
+  more : ℕ → ListWalk → ListWalk
+  ended : ListWalk
+  stopped : ℕ → ListWalk
 
 -- at most so many appointments on; the walk below never runs out
-unfoldable pub walkF : ℕ → List ℕ → ℕ → ℕ → ℕ → Walk
-walkF zero f e low at = ended
-walkF (suc k) f e low at =
-    ifLt at e (ifB (appointmentOk f e low at) (more at (walkF k f e (minuteAt f at) (nextAt f at))) (stopped at)) ended
+unfoldable pub listWalkF : ℕ → List ℕ → ℕ → ℕ → ℕ → ListWalk
+listWalkF zero f e low at = ended
+listWalkF (suc k) f e low at =
+    ifLt at e (ifB (appointmentOk f e low at) (more at (listWalkF k f e (minuteAt f at) (nextAt f at))) (stopped at)) ended
 
 -- the walk from a place to the list's end e, where no minute may be below low; a list holds no more appointments than bytes
-unfoldable pub walkFrom : List ℕ → ℕ → ℕ → ℕ → Walk
-walkFrom f e low at = walkF (e - at) f e low at
+unfoldable pub listWalkFrom : List ℕ → ℕ → ℕ → ℕ → ListWalk
+listWalkFrom f e low at = listWalkF (e - at) f e low at
 
 -- the places of the appointments met
-unfoldable pub placesIn : Walk → List ℕ
-placesIn (more at w) = at ∷ placesIn w
-placesIn ended = []
-placesIn (stopped at) = []
+unfoldable pub placesInList : ListWalk → List ℕ
+placesInList (more at w) = at ∷ placesInList w
+placesInList ended = []
+placesInList (stopped at) = []
 
 -- "24 .. appointment"
-unfoldable pub verdictIn : Walk → Verdict
+unfoldable pub verdictIn : ListWalk → Verdict
 verdictIn (more at w) = verdictIn w
 verdictIn ended = Verdict.Fine
 verdictIn (stopped at) = Verdict.Refused (refusalAt badAppointment at)

@@ -10,7 +10,7 @@ use Rattle.prelude.specs.Refusals.{calendarTooLong, notACalendar, badTable, bad
 use Rattle.prelude.specs.Verdicts.{andThen}
 use Rattle.prelude.specs.declared.refusals.Verdict.{Verdict}
 use Rattle.days.specs.Days.{lastDay}
-use Rattle.calendar.specs.Lists.{Walk, walkFrom, verdictIn}
+use Rattle.calendar.specs.Lists.{ListWalk, listWalkFrom, verdictIn}
 use Rattle.calendar.specs.declared.types.CalendarAnswer.{CalendarAnswer}
 
 -- "Calendar file over 2,228,224 bytes"
@@ -18,8 +18,8 @@ abbrev pub mostBytes : ℕ
 mostBytes = 2228224
 
 -- "Head: B5 A2 B0 B3 B3 B0 A2 B5"
-unfoldable pub sameBytes : ℕ → ℕ → ℕ → ℕ → ℕ → ℕ → ℕ → ℕ → Bool
-sameBytes a b c d e g h i =
+unfoldable pub calendarMark : ℕ → ℕ → ℕ → ℕ → ℕ → ℕ → ℕ → ℕ → Bool
+calendarMark a b c d e g h i =
     ifEq a 0xB5
     (ifEq b 0xA2
     (ifEq c 0xB0
@@ -30,10 +30,10 @@ sameBytes a b c d e g h i =
     false
 
 -- "under 64 bytes or wrong eight bytes"
-unfoldable pub identified : List ℕ → Bool
-identified f =
+unfoldable pub calendarIdentified : List ℕ → Bool
+calendarIdentified f =
     ifLt (length f) 64 false
-    (sameBytes (byte f 0) (byte f 1) (byte f 2) (byte f 3) (byte f 4) (byte f 5) (byte f 6) (byte f 7))
+    (calendarMark (byte f 0) (byte f 1) (byte f 2) (byte f 3) (byte f 4) (byte f 5) (byte f 6) (byte f 7))
 
 -- "count of descriptors"; "Descriptors from byte 64, 12 bytes each"
 abbrev pub countOf : List ℕ → ℕ
@@ -79,8 +79,8 @@ blockOk f p =
     false)))
 
 -- the list of the day whose descriptor stands at p
-abbrev pub listOf : List ℕ → ℕ → Walk
-listOf f p = walkFrom f (listEnd f (blockAt f p)) 0 (listPlace f (blockAt f p))
+abbrev pub listOf : List ℕ → ℕ → ListWalk
+listOf f p = listWalkFrom f (listEnd f (blockAt f p)) 0 (listPlace f (blockAt f p))
 
 -- a day: 23 at its descriptor, then 24
 unfoldable pub dayVerdict : List ℕ → ℕ → Verdict
@@ -91,15 +91,15 @@ unfoldable pub daysFrom : ℕ → List ℕ → ℕ → Verdict
 daysFrom zero f p = Verdict.Fine
 daysFrom (suc k) f p = andThen (dayVerdict f p) (daysFrom k f (p + 12))
 
-unfoldable pub answered : ℕ → Verdict → CalendarAnswer
-answered n Verdict.Fine = CalendarAnswer.Accepted n
-answered n (Verdict.Refused e) = CalendarAnswer.Refused e
+unfoldable pub calendarAnswered : ℕ → Verdict → CalendarAnswer
+calendarAnswered n Verdict.Fine = CalendarAnswer.Accepted n
+calendarAnswered n (Verdict.Refused e) = CalendarAnswer.Refused e
 
 -- the whole file; "the descriptor, or 64 for the table"
 unfoldable pub calendarOf : List ℕ → CalendarAnswer
 calendarOf f =
     ifLt mostBytes (length f) (CalendarAnswer.Refused (refusal calendarTooLong))
-    (ifB (identified f)
+    (ifB (calendarIdentified f)
     (ifLt (length f) (tableEnd f) (CalendarAnswer.Refused (refusalAt badTable 64))
-    (answered (countOf f) (andThen (tableFrom (countOf f) f 64 0) (daysFrom (countOf f) f 64))))
+    (calendarAnswered (countOf f) (andThen (tableFrom (countOf f) f 64 0) (daysFrom (countOf f) f 64))))
     (CalendarAnswer.Refused (refusal notACalendar)))

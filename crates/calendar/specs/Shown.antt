@@ -9,7 +9,7 @@ use Rattle.prelude.specs.Refusals.{noSuchNumber, outOfRange, refusal}
 use Rattle.prelude.specs.declared.slices.Stretch.{Stretch}
 use Rattle.days.specs.Days.{lastDay}
 use Rattle.calendar.specs.File.{Appointment}
-use Rattle.calendar.specs.Lists.{sizeAt, flagsAt, minuteAt, placesIn}
+use Rattle.calendar.specs.Lists.{sizeAt, flagsAt, minuteAt, placesInList}
 use Rattle.calendar.specs.Reader.{countOf, dayAt, offsetAt, listOf, calendarOf}
 use Rattle.calendar.specs.declared.types.CalendarAnswer.{CalendarAnswer}
 use Rattle.calendar.specs.declared.types.Descriptor.{Descriptor}
@@ -21,7 +21,7 @@ use Rattle.calendar.specs.declared.types.EntryAnswer.{EntryAnswer}
 -- the places of a day's appointments, among k descriptors from place p on: "a day with no descriptor shows nothing"
 unfoldable pub placesFrom : ℕ → List ℕ → ℕ → ℕ → List ℕ
 placesFrom zero f p d = []
-placesFrom (suc k) f p d = ifEq (dayAt f p) d (placesIn (listOf f p)) (placesFrom k f (p + 12) d)
+placesFrom (suc k) f p d = ifEq (dayAt f p) d (placesInList (listOf f p)) (placesFrom k f (p + 12) d)
 
 unfoldable pub placesOn : List ℕ → ℕ → List ℕ
 placesOn f d = placesFrom (countOf f) f 64 d
@@ -39,8 +39,8 @@ unfoldable pub appointmentsOn : List ℕ → ℕ → List Appointment
 appointmentsOn f d = map (appointmentAt f) (placesOn f d)
 
 -- the same appointment with the stretch of its text
-unfoldable pub entryAt : List ℕ → ℕ → Entry
-entryAt f at =
+unfoldable pub shownAt : List ℕ → ℕ → Entry
+shownAt f at =
     record {
       minute = record { 0 = minuteAt f at };
       flags = flagsAt f at;
@@ -72,7 +72,7 @@ countAnswer f d = countFrom f d (calendarOf f)
 -- the k-th appointment of a day: the file's own refusal, then 11, then 10
 unfoldable pub entryOf : List ℕ → ℕ → List ℕ → EntryAnswer
 entryOf f k places =
-    ifLt k (length places) (EntryAnswer.Entry (entryAt f (getD places k 0))) (EntryAnswer.Refused (refusal noSuchNumber))
+    ifLt k (length places) (EntryAnswer.Entry (shownAt f (getD places k 0))) (EntryAnswer.Refused (refusal noSuchNumber))
 
 unfoldable pub entryFrom : List ℕ → ℕ → ℕ → CalendarAnswer → EntryAnswer
 entryFrom f d k (CalendarAnswer.Accepted n) =
@@ -83,6 +83,6 @@ unfoldable pub entryAnswer : List ℕ → ℕ → ℕ → EntryAnswer
 entryAnswer f d k = entryFrom f d k (calendarOf f)
 
 -- its text as a stretch of the file; nothing where there is no such appointment
-unfoldable pub textIn : List ℕ → EntryAnswer → List ℕ
-textIn f (EntryAnswer.Entry e) = stretchBytes f (e .text)
-textIn f (EntryAnswer.Refused r) = []
+unfoldable pub appointmentTextIn : List ℕ → EntryAnswer → List ℕ
+appointmentTextIn f (EntryAnswer.Entry e) = stretchBytes f (e .text)
+appointmentTextIn f (EntryAnswer.Refused r) = []

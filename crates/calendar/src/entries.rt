@@ -1,9 +1,9 @@
 // The appointments of a list that was judged: how many, and each by its number.
 ghost use mathlib.Core.Path.{_≡_};
 ghost use lib.ListN.{length};
-ghost use Rattle.calendar.specs.Lists.{walkFrom, placesIn};
-ghost use Rattle.calendar.specs.Shown.{entryAt, entryOf};
-ghost use Rattle.calendar.specs.EntryLaws.{EntryIn, FineList};
+ghost use Rattle.calendar.specs.Lists.{listWalkFrom, placesInList};
+ghost use Rattle.calendar.specs.Shown.{shownAt, entryOf};
+ghost use Rattle.calendar.specs.Invariants.{EntryIn, FineList};
 use crate::lists::size_at;
 use crate::types::Entry;
 use crate::types::EntryAnswer;
@@ -17,7 +17,7 @@ use prelude::slices::word_in;
 // The appointment at a place.
 fn entry_at(file: &[u8], at: usize) -> Entry
     requires { ⌜ EntryIn (now file) at ⌝ }
-    ensures { λ r. ⌜ r ≡ entryAt (now (file .entry)) at ⌝ }
+    ensures { λ r. ⌜ r ≡ shownAt (now (file .entry)) at ⌝ }
 {
     let minute = word_in(file, at + 2);
     let flags = wide(file[at + 1]);
@@ -35,7 +35,7 @@ fn entry_at(file: &[u8], at: usize) -> Entry
 // How many appointments a list has.
 pub fn count_list(file: &[u8], from: usize, end: usize) -> usize
     requires { ⌜ FineList (now file) end from ⌝ }
-    ensures { λ r. ⌜ r ≡ length (placesIn (walkFrom (now (file .entry)) end 0 from)) ⌝ }
+    ensures { λ r. ⌜ r ≡ length (placesInList (listWalkFrom (now (file .entry)) end 0 from)) ⌝ }
 {
     let mut n: usize = 0;
     let mut at = from;
@@ -49,7 +49,7 @@ pub fn count_list(file: &[u8], from: usize, end: usize) -> usize
 // The k-th appointment of a list, or 10.
 pub fn entry_in(file: &[u8], from: usize, end: usize, k: usize) -> EntryAnswer
     requires { ⌜ FineList (now file) end from ⌝ }
-    ensures { λ r. ⌜ r ≡ entryOf (now (file .entry)) k (placesIn (walkFrom (now (file .entry)) end 0 from)) ⌝ }
+    ensures { λ r. ⌜ r ≡ entryOf (now (file .entry)) k (placesInList (listWalkFrom (now (file .entry)) end 0 from)) ⌝ }
 {
     let mut i: usize = 0;
     let mut at = from;

@@ -2,14 +2,14 @@
 ghost use mathlib.Core.Path.{_≡_};
 ghost use Prim.Native.Nat.{_+_, _*_, _<_, _≤_};
 ghost use lib.ListN.{length};
-ghost use Rattle.calendar.specs.Reader.{sameBytes, identified, countOf, tableFrom};
+ghost use Rattle.calendar.specs.Reader.{calendarMark, calendarIdentified, countOf, tableFrom};
 use prelude::refusals::BAD_TABLE;
 use prelude::refusals::Refusal;
 use prelude::refusals::Verdict;
 use prelude::slices::word_in;
 
 fn same_bytes(a: u8, b: u8, c: u8, d: u8, e: u8, g: u8, h: u8, i: u8) -> bool
-    ensures { λ r. ⌜ r ≡ sameBytes a b c d e g h i ⌝ }
+    ensures { λ r. ⌜ r ≡ calendarMark a b c d e g h i ⌝ }
 {
     if a != 0xB5 {
         return false;
@@ -40,7 +40,7 @@ fn same_bytes(a: u8, b: u8, c: u8, d: u8, e: u8, g: u8, h: u8, i: u8) -> bool
 
 // Whether the file has a head with its eight bytes.
 pub fn is_calendar(file: &[u8]) -> bool
-    ensures { λ r. ⌜ r ≡ identified (now (file .entry)) ⌝ }
+    ensures { λ r. ⌜ r ≡ calendarIdentified (now (file .entry)) ⌝ }
 {
     if file.len() < 64 {
         return false;

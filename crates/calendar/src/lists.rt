@@ -2,10 +2,10 @@
 ghost use mathlib.Core.Path.{_≡_};
 ghost use Prim.Native.Nat.{_+_, _-_, _<_, _≤_};
 ghost use lib.ListN.{length};
-ghost use Rattle.calendar.specs.Lists.{sizeAt, firstZero, textEnds, appointmentOk, walkFrom, verdictIn};
-ghost use Rattle.calendar.specs.ListLaws.{ZeroLast, ListIn};
+ghost use Rattle.calendar.specs.Lists.{sizeAt, firstZero, textEnds, appointmentOk, listWalkFrom, verdictIn};
+ghost use Rattle.calendar.specs.Invariants.{ZeroLast, ListIn};
 ghost use Rattle.calendar.specs.Reader.{blockAt, listPlace, listEnd};
-ghost use Rattle.calendar.specs.ReaderLaws.{BlockAt};
+ghost use Rattle.calendar.specs.Invariants.{BlockAt};
 use crate::types::Span;
 use prelude::numbers::wide_size;
 use prelude::refusals::BAD_APPOINTMENT;
@@ -110,7 +110,7 @@ fn appointment_ok(file: &[u8], end: usize, low: u16, at: usize) -> bool
 // The list from a place to its end.
 pub fn judge_list(file: &[u8], from: usize, end: usize) -> Verdict
     requires { ⌜ ListIn (now file) end ⌝ }
-    ensures { λ r. ⌜ r ≡ verdictIn (walkFrom (now (file .entry)) end 0 from) ⌝ }
+    ensures { λ r. ⌜ r ≡ verdictIn (listWalkFrom (now (file .entry)) end 0 from) ⌝ }
 {
     let mut low: u16 = 0;
     let mut at = from;

@@ -2,8 +2,8 @@
 ghost use mathlib.Core.Path.{_≡_};
 ghost use Prim.Native.Nat.{_+_};
 ghost use Rattle.prelude.specs.Verdicts.{andThen};
-ghost use Rattle.calendar.specs.Reader.{tableFrom, blockOk, dayVerdict, daysFrom, answered, calendarOf};
-ghost use Rattle.calendar.specs.ReaderLaws.{WholeTable, InTable};
+ghost use Rattle.calendar.specs.Reader.{tableFrom, blockOk, dayVerdict, daysFrom, calendarAnswered, calendarOf};
+ghost use Rattle.calendar.specs.Invariants.{WholeTable, InTable};
 use crate::head::count_of;
 use crate::head::is_calendar;
 use crate::head::judge_table;
@@ -99,7 +99,7 @@ fn judge_all(file: &[u8], count: usize) -> Verdict
 }
 
 fn answered_with(count: usize, v: Verdict) -> CalendarAnswer
-    ensures { λ r. ⌜ r ≡ answered count v ⌝ }
+    ensures { λ r. ⌜ r ≡ calendarAnswered count v ⌝ }
 {
     match v {
         Verdict::Fine => CalendarAnswer::Accepted(count),

@@ -1,8 +1,8 @@
 // What an accepted Calendar file shows: the descriptors by number, and the appointments of a day. Each call gives the file's own refusal first.
 ghost use mathlib.Core.Path.{_≡_};
-ghost use Rattle.calendar.specs.Shown.{descriptorFrom, descriptorAnswer, countFrom, countAnswer, entryFrom, entryAnswer, textIn};
-ghost use Rattle.calendar.specs.ReaderLaws.{AcceptedFile};
-ghost use Rattle.calendar.specs.EntryLaws.{ListOn};
+ghost use Rattle.calendar.specs.Shown.{descriptorFrom, descriptorAnswer, countFrom, countAnswer, entryFrom, entryAnswer, appointmentTextIn};
+ghost use Rattle.calendar.specs.Invariants.{AcceptedFile};
+ghost use Rattle.calendar.specs.Invariants.{ListOn};
 use crate::entries::count_list;
 use crate::entries::entry_in;
 use crate::lists::span_of;
@@ -119,7 +119,7 @@ pub fn appointment_at(file: &[u8], day: CalendarDay, k: usize) -> EntryAnswer
 
 // Its text, as that stretch of the caller's file; nothing where there is no such appointment.
 pub fn text_at(file: &[u8], day: CalendarDay, k: usize) -> &[u8]
-    ensures { λ r. ⌜ now r ≡ textIn (now (file .entry)) (entryAnswer (now (file .entry)) (day .0) k) ⌝ }
+    ensures { λ r. ⌜ now r ≡ appointmentTextIn (now (file .entry)) (entryAnswer (now (file .entry)) (day .0) k) ⌝ }
 {
     let a = appointment_at(file, day, k);
     match a {

@@ -135,10 +135,10 @@ chainsVerdict t previous next kind minute =
     (ifEq (entries t) 0 (refused badDayTable 0) (chainsJudged t previous next kind minute))
     (refused badArrays 0)
 
-unfoldable pub answered : ℕ → Verdict → ChainsAnswer
-answered n Verdict.Fine = ChainsAnswer.Days n
-answered n (Verdict.Refused e) = ChainsAnswer.Refused e
+unfoldable pub chainsAnswered : ℕ → Verdict → ChainsAnswer
+chainsAnswered n Verdict.Fine = ChainsAnswer.Days n
+chainsAnswered n (Verdict.Refused e) = ChainsAnswer.Refused e
 
 -- accepted: the number of days
 unfoldable pub chainsAnswer : List ℕ → List ℕ → List ℕ → List ℕ → List ℕ → ChainsAnswer
-chainsAnswer t previous next kind minute = answered (days t) (chainsVerdict t previous next kind minute)
+chainsAnswer t previous next kind minute = chainsAnswered (days t) (chainsVerdict t previous next kind minute)

@@ -1,21 +1,9 @@
 -- HP 200LX day chains: what is accepted and refused, what is shown of the accepted, and the code's own way with its laws.
 pub mod Chains
-pub mod Valid
-pub mod Shown
-pub mod Stages
 pub mod Dates
 pub mod Marks
 pub mod Ranks
-pub mod LinkedLaws
-pub mod WalkLaws
-pub mod DateLaws
-pub mod MarkLaws
-pub mod RankLaws
-pub mod StageLaws
-pub mod RunLaws
-pub mod StepLaws
-pub mod Theorem
-pub mod OrderLaws
-pub mod ValidLaws
-pub mod NumberLaws
-pub mod Examples
+pub mod Shown
+pub mod Stages
+pub mod Valid
+pub mod Laws

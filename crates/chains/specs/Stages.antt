@@ -12,7 +12,7 @@ use Rattle.chains.specs.Chains.{fieldOf, mostRecords, entries, days, hea
 use Rattle.chains.specs.Shown.{after}
 
 -- the arrays are equally long, at most 4,096
-pub record Sizes (previous next kind minute : List ℕ) : Type 0 where
+pub record EqualLengths (previous next kind minute : List ℕ) : Type 0 where
   pub nexts : length next ≡ length previous
   pub kinds : length kind ≡ length previous
   pub minutes : length minute ≡ length previous
@@ -20,7 +20,7 @@ pub record Sizes (previous next kind minute : List ℕ) : Type 0 where
 
 -- all stages: the sizes are right, the table has an entry, and no verdict is a refusal
 pub record Passed (t previous next kind minute : List ℕ) : Type 0 where
-  pub sizes : Sizes previous next kind minute
+  pub sizes : EqualLengths previous next kind minute
   pub some : 0 < entries t
   pub entry-fine : inTurn (entryVerdict t) (entries t) 0 ≡ Verdict.Fine
   pub head-fine : inTurn (headVerdict t previous) (days t) 0 ≡ Verdict.Fine

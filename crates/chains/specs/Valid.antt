@@ -1,4 +1,4 @@
--- R-2's "Accept exactly when", sentence by sentence. `accepted-valid` and `valid-accepted` (ValidLaws): just these chains are accepted.
+-- R-2's "Accept exactly when", sentence by sentence. `accepted-valid` and `valid-accepted` (Laws.Valid): just these chains are accepted.
 -- Assumes nothing.
 use Prim.Native.Nat.{ℕ, _+_, _*_, _<_, _≤_}
 use mathlib.Core.Path.{_≡_}
@@ -6,7 +6,7 @@ use mathlib.Core.Bool.{true}
 use mathlib.Core.List.{List, [], _∷_, List·Memᴰ}
 use lib.ListN.{length}
 use Rattle.chains.specs.Chains.{fieldOf, noRecord, days, headAt, dateBefore, chainAt}
-use Rattle.chains.specs.Stages.{Sizes}
+use Rattle.chains.specs.Stages.{EqualLengths}
 
 -- "kinds are 0 to 2 and appointment minutes at most 1,439"
 abbrev pub InRange : List ℕ → List ℕ → ℕ → Type 0
@@ -22,13 +22,13 @@ unfoldable pub SortedAfter : List ℕ → List ℕ → ℕ → List ℕ → Type
 SortedAfter kind minute q [] = Unit
 SortedAfter kind minute q (r ∷ rs) = InOrder kind minute q r × SortedAfter kind minute r rs
 
-unfoldable pub Sorted : List ℕ → List ℕ → List ℕ → Type 0
-Sorted kind minute [] = Unit
-Sorted kind minute (r ∷ rs) = SortedAfter kind minute r rs
+unfoldable pub ChainSorted : List ℕ → List ℕ → List ℕ → Type 0
+ChainSorted kind minute [] = Unit
+ChainSorted kind minute (r ∷ rs) = SortedAfter kind minute r rs
 
-pub record Valid (t previous next kind minute : List ℕ) : Type 0 where
+pub record ValidChains (t previous next kind minute : List ℕ) : Type 0 where
   -- "the arrays are equally long, at most 4,096"
-  pub sizes : Sizes previous next kind minute
+  pub sizes : EqualLengths previous next kind minute
   -- "the table is whole entries whose last, and only the last, has record 65,535"
   pub whole : length t ≡ 5 * days t + 5
   pub last : headAt t (days t) ≡ noRecord
@@ -43,4 +43,4 @@ pub record Valid (t previous next kind minute : List ℕ) : Type 0 where
   -- "reached kinds are 0 to 2 and appointment minutes at most 1,439"
   pub values : (i r : ℕ) → i < days t → List·Memᴰ r (chainAt t next i) → InRange kind minute r
   -- "events come first, then appointments by time (equal allowed), then to-dos"
-  pub order : (i : ℕ) → i < days t → Sorted kind minute (chainAt t next i)
+  pub order : (i : ℕ) → i < days t → ChainSorted kind minute (chainAt t next i)

@@ -3,7 +3,7 @@ ghost use mathlib.Core.Path.{_≡_};
 ghost use Prim.Native.Nat.{_<_};
 ghost use Rattle.chains.specs.Chains.{entries, sizesOk, chainsJudged, chainsVerdict, chainsAnswer};
 ghost use Rattle.chains.specs.Shown.{Promised};
-ghost use Rattle.chains.specs.Stages.{Sizes};
+ghost use Rattle.chains.specs.Stages.{EqualLengths};
 use crate::heads::judge_heads;
 use crate::links::judge_links;
 use crate::order::judge_order;
@@ -45,7 +45,7 @@ fn judge_all(
     minutes: &[u16],
 ) -> Verdict
     requires { ⌜ (count ≡ entries (now table)) × (0 < count) ⌝ }
-    requires { ⌜ Sizes (now previous) (now next) (now kinds) (now minutes) ⌝ }
+    requires { ⌜ EqualLengths (now previous) (now next) (now kinds) (now minutes) ⌝ }
     ensures { λ r. ⌜ r ≡ chainsJudged (now (table .entry)) (now (previous .entry)) (now (next .entry)) (now (kinds .entry)) (now (minutes .entry)) ⌝ }
 {
     let days = count - 1;

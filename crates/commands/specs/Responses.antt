@@ -6,15 +6,15 @@ use lib.ListN.{length}
 use Rattle.prelude.specs.Choice.{ifLt}
 use Rattle.prelude.specs.Refusals.{outOfRange, noRoom, refusal}
 use Rattle.prelude.specs.declared.refusals.Refusal.{Refusal}
+use Rattle.digits.specs.Digits.{decimal}
 use Rattle.book.specs.Books.{bookOf}
 use Rattle.book.specs.declared.types.BookAnswer.{BookAnswer}
 use Rattle.falls.specs.declared.types.ShortMonth.{ShortMonth}
-use Rattle.digits.specs.Digits.{decimal}
 use Rattle.pages.specs.Answers.{validated}
 use Rattle.pages.specs.declared.types.Validated.{Validated}
 use Rattle.printing.specs.Printed.{newline, space, pageText}
 use Rattle.export.specs.Export.{exportFile, exportAnswer, showsUnder}
-use Rattle.export.specs.declared.types.ExportAnswer.{ExportAnswer}
+use Rattle.export.specs.declared.answers.ExportAnswer.{ExportAnswer}
 use Rattle.commands.specs.declared.types.Command.{Command}
 
 -- "A refusal is printed as number, space, place, 0Ah."

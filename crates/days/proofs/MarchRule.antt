@@ -6,11 +6,12 @@ use mathlib.Core.Bool.{Bool, true}
 use native.Mathlib.Omega.{arith}
 use native.Mathlib.Nat.{add-zero, zero-add, add-suc, suc-add, le-of-suc-le-suc, not-suc-le-zero}
 use lib.Dec.{T, eqb, eqb→eq}
-use Rattle.prelude.specs.Choice.{ifLt, ifEq, ifB, is-lt, is-ge}
+use Rattle.prelude.specs.Choice.{ifLt, ifEq, ifB}
+use Rattle.prelude.specs.Laws.Choice.{is-lt, is-ge}
 use Rattle.days.specs.Dates.{leap, monthLength}
-use Rattle.days.specs.Days.{yearAt, monthAt, lengthAt, monthStart, monthOf}
-use Rattle.days.specs.DateLaws.{Valid}
-use Rattle.days.specs.DayLaws.{start-zero, start-suc}
+use Rattle.days.specs.Days.{yearAt, monthAt, monthLengthAt, monthStart, monthOf}
+use Rattle.days.specs.Dates.{RealDate}
+use Rattle.days.specs.Laws.Days.{start-zero, start-suc}
 use Rattle.days.proofs.TableRule.{both, both-left, both-right}
 use Rattle.days.specs.declared.types.Date.{Date}
 
@@ -25,23 +26,23 @@ fromMarch y m = ifLt m 3 (daysFromMarch (y - 1977) (m + 12)) (daysFromMarch (y -
 -- n months from month i on, which starts on day s, are by the closed form
 abbrev agree : ℕ → ℕ → ℕ → Bool
 agree zero i s = true
-agree (suc n) i s = both (eqb (fromMarch (yearAt i) (monthAt i)) (s + 1401)) (agree n (suc i) (s + lengthAt i))
+agree (suc n) i s = both (eqb (fromMarch (yearAt i) (monthAt i)) (s + 1401)) (agree n (suc i) (s + monthLengthAt i))
 
 from : (n i s : ℕ) → s ≡ monthStart i → T (agree n i s) → (k : ℕ) → k < n → fromMarch (yearAt (i + k)) (monthAt (i + k)) ≡ monthStart (i + k) + 1401
 from zero i s e t k h = absurd (not-suc-le-zero h)
 from (suc n) i s e t zero h =
-    rw (add-zero i) (eqb→eq _ (s + 1401) (both-left (eqb (fromMarch (yearAt i) (monthAt i)) (s + 1401)) (agree n (suc i) (s + lengthAt i)) t) ∙ ap (λ (m : ℕ). m + 1401) e)
+    rw (add-zero i) (eqb→eq _ (s + 1401) (both-left (eqb (fromMarch (yearAt i) (monthAt i)) (s + 1401)) (agree n (suc i) (s + monthLengthAt i)) t) ∙ ap (λ (m : ℕ). m + 1401) e)
 from (suc n) i s e t (suc k) h =
     rw (add-suc i k, ← suc-add i k)
-    (from n (suc i) (s + lengthAt i) (ap (λ (m : ℕ). m + lengthAt i) e ∙ sym (start-suc i))
-    (both-right (eqb (fromMarch (yearAt i) (monthAt i)) (s + 1401)) (agree n (suc i) (s + lengthAt i)) t) k (le-of-suc-le-suc h))
+    (from n (suc i) (s + monthLengthAt i) (ap (λ (m : ℕ). m + monthLengthAt i) e ∙ sym (start-suc i))
+    (both-right (eqb (fromMarch (yearAt i) (monthAt i)) (s + 1401)) (agree n (suc i) (s + monthLengthAt i)) t) k (le-of-suc-le-suc h))
 
 tested : T (agree 1440 0 0)
-unfolding lengthAt monthLength leap ifLt ifEq ifB
+unfolding monthLengthAt monthLength leap ifLt ifEq ifB
 tested = tt
 
 -- the closed form of the start of a real date's month
-march-start : {d : Date} → Valid d → fromMarch (d .year) (d .month) ≡ monthStart (monthOf d) + 1401
+march-start : {d : Date} → RealDate d → fromMarch (d .year) (d .month) ≡ monthStart (monthOf d) + 1401
 march-start {d} v =
     let y : yearAt (monthOf d) ≡ d .year = omega arith in
     let m : monthAt (monthOf d) ≡ d .month = omega arith in
@@ -49,8 +50,8 @@ march-start {d} v =
     let e = from 1440 0 0 (sym start-zero) tested (monthOf d) h in
     rw (zero-add, y, m) at e
 
-pub march-early : {d : Date} → Valid d → d .month < 3 → daysFromMarch (d .year - 1977) (d .month + 12) ≡ monthStart (monthOf d) + 1401
+pub march-early : {d : Date} → RealDate d → d .month < 3 → daysFromMarch (d .year - 1977) (d .month + 12) ≡ monthStart (monthOf d) + 1401
 march-early v h = sym (is-lt h _ _) ∙ march-start v
 
-pub march-late : {d : Date} → Valid d → 3 ≤ d .month → daysFromMarch (d .year - 1976) (d .month) ≡ monthStart (monthOf d) + 1401
+pub march-late : {d : Date} → RealDate d → 3 ≤ d .month → daysFromMarch (d .year - 1976) (d .month) ≡ monthStart (monthOf d) + 1401
 march-late v h = sym (is-ge h _ _) ∙ march-start v

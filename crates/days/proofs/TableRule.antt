@@ -7,8 +7,8 @@ use Prim.Native.Nat.{ℕ, zero, suc, _+_, _<_}
 use native.Mathlib.Nat.{add-zero, zero-add, add-suc, suc-add, le-of-suc-le-suc, not-suc-le-zero}
 use lib.Dec.{T, eqb, eqb→eq}
 use lib.ListN.{length, getD}
-use Rattle.days.specs.Days.{lengthAt, monthStart}
-use Rattle.days.specs.DayLaws.{start-zero, start-suc}
+use Rattle.days.specs.Days.{monthLengthAt, monthStart}
+use Rattle.days.specs.Laws.Days.{start-zero, start-suc}
 
 abbrev pub both : Bool → Bool → Bool
 both true b = b
@@ -25,14 +25,14 @@ both-right false b t = absurd t
 -- from month i on, which starts on day s, each entry is its month's start
 abbrev pub runs : ℕ → ℕ → List ℕ → Bool
 runs i s [] = true
-runs i s (x ∷ xs) = both (eqb x s) (runs (suc i) (s + lengthAt i) xs)
+runs i s (x ∷ xs) = both (eqb x s) (runs (suc i) (s + monthLengthAt i) xs)
 
 from : (xs : List ℕ) (i s : ℕ) → s ≡ monthStart i → T (runs i s xs) → (k : ℕ) → k < length xs → getD xs k 0 ≡ monthStart (i + k)
 from [] i s e t k h = absurd (not-suc-le-zero h)
-from (x ∷ xs) i s e t zero h = eqb→eq x s (both-left (eqb x s) (runs (suc i) (s + lengthAt i) xs) t) ∙ e ∙ ap monthStart (sym (add-zero i))
+from (x ∷ xs) i s e t zero h = eqb→eq x s (both-left (eqb x s) (runs (suc i) (s + monthLengthAt i) xs) t) ∙ e ∙ ap monthStart (sym (add-zero i))
 from (x ∷ xs) i s e t (suc k) h =
-    from xs (suc i) (s + lengthAt i) (ap (λ (m : ℕ). m + lengthAt i) e ∙ sym (start-suc i))
-    (both-right (eqb x s) (runs (suc i) (s + lengthAt i) xs) t) k (le-of-suc-le-suc h)
+    from xs (suc i) (s + monthLengthAt i) (ap (λ (m : ℕ). m + monthLengthAt i) e ∙ sym (start-suc i))
+    (both-right (eqb x s) (runs (suc i) (s + monthLengthAt i) xs) t) k (le-of-suc-le-suc h)
     ∙ ap monthStart (suc-add i k ∙ sym (add-suc i k))
 
 pub entry : (xs : List ℕ) → T (runs 0 0 xs) → (k : ℕ) → k < length xs → getD xs k 0 ≡ monthStart k

@@ -1,6 +1,6 @@
 -- Dates of the Gregorian calendar: leap years, month lengths, real dates, the order of dates.
 -- Assumes nothing.
-use Prim.Native.Nat.{ℕ, _%_}
+use Prim.Native.Nat.{ℕ, _%_, _≤_}
 use mathlib.Core.Bool.{Bool, true, false}
 use Rattle.prelude.specs.Choice.{ifLt, ifEq, ifB}
 use Rattle.days.specs.declared.types.Date.{Date}
@@ -30,3 +30,12 @@ before a b =
     (ifLt (b .year) (a .year) false
     (ifLt (a .month) (b .month) true
     (ifLt (b .month) (a .month) false (ifLt (a .day) (b .day) true false))))
+
+-- the facts of a real date
+pub record RealDate (d : Date) : Type 0 where
+  pub from : 1980 ≤ d .year
+  pub upto : d .year ≤ 2099
+  pub january : 1 ≤ d .month
+  pub december : d .month ≤ 12
+  pub first : 1 ≤ d .day
+  pub last : d .day ≤ monthLength (d .year) (d .month)

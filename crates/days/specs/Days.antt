@@ -16,13 +16,13 @@ yearAt i = 1980 + i / 12
 abbrev pub monthAt : ℕ → ℕ
 monthAt i = i % 12 + 1
 
-unfoldable pub lengthAt : ℕ → ℕ
-lengthAt i = monthLength (yearAt i) (monthAt i)
+unfoldable pub monthLengthAt : ℕ → ℕ
+monthLengthAt i = monthLength (yearAt i) (monthAt i)
 
 -- "first entry 0, each next larger by the month's length"
 unfoldable pub monthStart : ℕ → ℕ
 monthStart zero = 0
-monthStart (suc i) = monthStart i + lengthAt i
+monthStart (suc i) = monthStart i + monthLengthAt i
 
 abbrev pub monthOf : Date → ℕ
 monthOf d = (d .year - 1980) * 12 + (d .month - 1)

@@ -27,13 +27,13 @@ laterInMonth f =
     }
 
 -- the day after, as the first of a month
-abbrev pub firstOf : DayFacts → ℕ → ℕ → DayFacts
-firstOf f y m = factsWith (f .day .0 + 1) (record { year = y; month = m; day = 1 }) (nextWeekday (f .weekday))
+abbrev pub firstOfMonth : DayFacts → ℕ → ℕ → DayFacts
+firstOfMonth f y m = factsWith (f .day .0 + 1) (record { year = y; month = m; day = 1 }) (nextWeekday (f .weekday))
 
 unfoldable pub stepped : DayFacts → DayFacts
 stepped f =
     ifLt (f .date .day) (f .length) (laterInMonth f)
-    (ifLt (f .date .month) 12 (firstOf f (f .date .year) (f .date .month + 1)) (firstOf f (f .date .year + 1) 1))
+    (ifLt (f .date .month) 12 (firstOfMonth f (f .date .year) (f .date .month + 1)) (firstOfMonth f (f .date .year + 1) 1))
 
 -- the facts of the day after; past the last day, or a year past 2099, the facts stay
 unfoldable pub nextFacts : DayFacts → DayFacts

@@ -1,5 +1,5 @@
 -- Request R-5: "find the month in the table by halving, and show that eleven halvings, each keeping the part that holds the day, always leave one month".
--- Stated here, proved in `HalvingLaws` (`eleven-halvings`).
+-- Stated here, proved in `Laws.Halving` (`eleven-halvings`).
 -- Assumes nothing.
 use Prim.Native.Nat.{ℕ, zero, suc, _+_, _-_, _/_, _<_, _≤_}
 use mathlib.Core.Path.{_≡_}

@@ -2,7 +2,7 @@
 ghost use mathlib.Core.Path.{_≡_};
 ghost use Prim.Native.Nat.{_≤_, _<_};
 ghost use Rattle.days.specs.Days.{nextWeekday, lastDay};
-ghost use Rattle.days.specs.Facts.{stepped, nextFacts, firstOf};
+ghost use Rattle.days.specs.Facts.{stepped, nextFacts, firstOfMonth};
 ghost use Rattle.days.specs.Answers.{factsAnswer, nextAnswer};
 use crate::answers::FactsAnswer;
 use crate::dates::month_days;
@@ -46,7 +46,7 @@ fn next_weekday(w: u16) -> u16
 // The first of a month, as the day after f.
 fn first_of(f: DayFacts, year: u16, month: u16) -> DayFacts
     requires { ⌜ f .day .0 < lastDay ⌝ }
-    ensures { λ r. ⌜ r ≡ firstOf f year month ⌝ }
+    ensures { λ r. ⌜ r ≡ firstOfMonth f year month ⌝ }
 {
     DayFacts {
         day: CalendarDay(f.day.0 + 1),

@@ -2,7 +2,7 @@
 ghost use mathlib.Core.Path.{_≡_};
 ghost use Prim.Native.Nat.{_+_, _-_, _*_, _/_, _<_, _≤_};
 ghost use Rattle.days.specs.Days.{dayNumber, dateOf, weekdayOf, lastDay};
-ghost use Rattle.days.specs.DateLaws.{Valid};
+ghost use Rattle.days.specs.Dates.{RealDate};
 ghost use Rattle.days.specs.Answers.{dayAnswer, dateAnswer, weekdayAnswer};
 use crate::answers::DateAnswer;
 use crate::answers::DayAnswer;
@@ -26,7 +26,7 @@ fn days_from_march(years: u16, month: u16) -> u16
 
 // The day of a real date, by that count. Day 0 is day 1,401 of it.
 fn day_of(d: Date) -> u16
-    requires { ⌜ Valid d ⌝ }
+    requires { ⌜ RealDate d ⌝ }
     ensures { λ r. ⌜ r ≡ dayNumber d ⌝ }
 {
     if d.month < 3 {

@@ -1,6 +1,3 @@
--- Numbers as text: the definitions, and their laws in files named so.
+-- Numbers as text.
 pub mod Digits
-pub mod DecimalLaws
-pub mod NumberLaws
-pub mod Backed
-pub mod Examples
+pub mod Laws

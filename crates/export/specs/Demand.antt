@@ -16,8 +16,9 @@ use Rattle.calendar.specs.File.{Appointment}
 use Rattle.calendar.specs.Reader.{countOf, calendarOf}
 use Rattle.calendar.specs.Shown.{appointmentsOn}
 use Rattle.calendar.specs.declared.types.CalendarAnswer.{CalendarAnswer}
-use Rattle.export.specs.Export.{spanOk, textOf, exportDays, exportFile, pastLastBlock}
-use Rattle.export.specs.declared.types.ExportAnswer.{ExportAnswer}
+use Rattle.calendar_writer.specs.DayLists.{pastLastBlock}
+use Rattle.export.specs.Export.{spanOk, recordText, exportDays, exportFile}
+use Rattle.export.specs.declared.answers.ExportAnswer.{ExportAnswer}
 
 -- what the two lists hold
 pub record Showing : Type 0 where
@@ -27,7 +28,7 @@ pub record Showing : Type 0 where
 
 -- "start minute, state bit 0 and text of each record that falls on it"
 abbrev pub listed : List ℕ → Numbered → Showing
-listed book x = record { minute = startOf x; alarm = recordTimes x .alarm; text = textOf book x }
+listed book x = record { minute = startOf x; alarm = recordTimes x .alarm; text = recordText book x }
 
 -- "minute, flag 1 and text of the day's appointments in the written file"
 abbrev pub shown : Appointment → Showing

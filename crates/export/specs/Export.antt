@@ -1,9 +1,9 @@
 -- The export of a book's days as a Calendar file, document 01 "The Calendar file" and the refusals 11, 13 and 12.
 -- What a day shows is left open: `shows d x` says whether the record x shows on day d.
 -- Assumes nothing.
-use Prim.Native.Nat.{ℕ, zero, suc, _+_, _%_}
+use Prim.Native.Nat.{ℕ, _+_, _%_}
 use mathlib.Core.Bool.{Bool, true, false}
-use mathlib.Core.List.{List, [], _∷_, map}
+use mathlib.Core.List.{List, map}
 use lib.ListN.{length}
 use Rattle.prelude.specs.Choice.{ifLt, ifEq, ifB}
 use Rattle.prelude.specs.Bytes.{bit, stretchBytes}
@@ -17,9 +17,10 @@ use Rattle.book.specs.declared.types.BookAnswer.{BookAnswer}
 use Rattle.book.specs.declared.types.Settings.{Settings}
 use Rattle.falls.specs.declared.types.ShortMonth.{ShortMonth}
 use Rattle.pages.specs.Pages.{Numbered, recordTimes, startOf, pageOf, fallsOn}
-use Rattle.calendar.specs.File.{Appointment, Day, units, blockBytes, firstUnit, fileOf}
+use Rattle.calendar.specs.File.{Appointment, Day, fileOf}
 use Rattle.calendar.specs.declared.types.CalendarSettings.{CalendarSettings}
-use Rattle.export.specs.declared.types.ExportAnswer.{ExportAnswer}
+use Rattle.calendar_writer.specs.DayLists.{daysWith, pastLastBlock}
+use Rattle.export.specs.declared.answers.ExportAnswer.{ExportAnswer}
 
 -- "The export takes a first day, a Calendar day even when the count is 0, and a count of days, 0 to 366, with first + count at most 43,830."
 unfoldable pub spanOk : ℕ → ℕ → Bool
@@ -49,27 +50,17 @@ unfoldable pub specialTime : ℕ → ℕ → ℕ
 specialTime interval minute = ifEq (minute % interval) 0 0 2
 
 -- a record's text in the file
-abbrev pub textOf : List ℕ → Numbered → List ℕ
-textOf f x = stretchBytes f (x .entry .text)
+abbrev pub recordText : List ℕ → Numbered → List ℕ
+recordText f x = stretchBytes f (x .entry .text)
 
 -- a record as an appointment: "flags (1 alarm, 2 special time), minute, text"; "Dropped: end minutes, own lead times, notes, to-dos."
 unfoldable pub appointmentOf : List ℕ → ℕ → Numbered → Appointment
 appointmentOf f interval x =
-    record { minute = startOf x; flags = bit (recordTimes x .alarm) + specialTime interval (startOf x); text = textOf f x }
+    record { minute = startOf x; flags = bit (recordTimes x .alarm) + specialTime interval (startOf x); text = recordText f x }
 
 -- a day's appointments, in page order
 unfoldable pub appointmentsFor : (ℕ → Numbered → Bool) → List ℕ → ℕ → ℕ → List Appointment
 appointmentsFor shows f interval d = map (appointmentOf f interval) (pageOf (shows d) f)
-
--- "One descriptor for each day with appointments": a day in front of those after it
-unfoldable pub addDay : ℕ → List Appointment → List Day → List Day
-addDay d [] ds = ds
-addDay d (a ∷ al) ds = record { day = d; appointments = a ∷ al } ∷ ds
-
--- "rising": of count days from d on those with appointments, where `list` gives a day's
-unfoldable pub daysWith : (ℕ → List Appointment) → ℕ → ℕ → List Day
-daysWith list zero d = []
-daysWith list (suc count) d = addDay d (list d) (daysWith list count (suc d))
 
 -- the days of a span
 unfoldable pub exportDays : (ℕ → Numbered → Bool) → List ℕ → ℕ → ℕ → List Day
@@ -79,14 +70,6 @@ exportDays shows f first count =
 -- the file
 unfoldable pub exportFile : (ℕ → Numbered → Bool) → List ℕ → ℕ → ℕ → List ℕ
 exportFile shows f first count = fileOf (settingsFor (settingsOf f)) (exportDays shows f first count)
-
--- "a day's block would start at block 32,768 or later", where the first starts at block u
-unfoldable pub pastLastBlockFrom : ℕ → List Day → Bool
-pastLastBlockFrom u [] = false
-pastLastBlockFrom u (d ∷ ds) = ifLt 32767 u true (pastLastBlockFrom (u + units (length (blockBytes d))) ds)
-
-unfoldable pub pastLastBlock : List Day → Bool
-pastLastBlock ds = pastLastBlockFrom (firstUnit (length ds)) ds
 
 -- 13, then "12: lent buffer shorter than the file"
 unfoldable pub sized : ℕ → Bool → ℕ → ExportAnswer
@@ -109,18 +92,18 @@ unfoldable pub exportAnswer : (ℕ → Numbered → Bool) → List ℕ → ℕ �
 exportAnswer shows f first count room = exportFrom shows f first count room (bookOf f)
 
 -- "No lent byte changes. After success, bytes past the written length are as before."
-unfoldable pub leaves : List ℕ → List ℕ → ExportAnswer → List ℕ
-leaves file out (ExportAnswer.Written n) = splice out 0 file
-leaves file out (ExportAnswer.Refused e) = out
+unfoldable pub leavesFile : List ℕ → List ℕ → ExportAnswer → List ℕ
+leavesFile file out (ExportAnswer.Written n) = splice out 0 file
+leavesFile file out (ExportAnswer.Refused e) = out
 
 -- the lent buffer, which was out: after a span of an accepted book, and after any call
 unfoldable pub spanLeaves : (ℕ → Numbered → Bool) → List ℕ → ℕ → ℕ → List ℕ → List ℕ
 spanLeaves shows f first count out =
-    leaves (exportFile shows f first count) out (spanAnswer shows f first count (length out))
+    leavesFile (exportFile shows f first count) out (spanAnswer shows f first count (length out))
 
 unfoldable pub exportLeaves : (ℕ → Numbered → Bool) → List ℕ → ℕ → ℕ → List ℕ → List ℕ
 exportLeaves shows f first count out =
-    leaves (exportFile shows f first count) out (exportAnswer shows f first count (length out))
+    leavesFile (exportFile shows f first count) out (exportAnswer shows f first count (length out))
 
 -- what shows under a short-month choice: the records that fall on the day
 abbrev pub showsUnder : ShortMonth → ℕ → Numbered → Bool

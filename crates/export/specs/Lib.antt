@@ -1,15 +1,7 @@
--- The export: a book's days as a Calendar file, demand 3, and the laws behind it.
+-- The export: a book's days as a Calendar file, demand 3, and what its passes make of a book.
 pub mod Export
-pub mod Examples
 pub mod Demand
-pub mod Theorem
-pub mod Pieces
-pub mod ListRead
-pub mod DayRead
-pub mod TableRead
-pub mod FileRead
-pub mod RecordLaws
-pub mod SpanLaws
-pub mod AppointmentLaws
-pub mod MeasureLaws
-pub mod AnswerLaws
+pub mod Passes
+pub mod Invariants
+pub mod Requests
+pub mod Laws

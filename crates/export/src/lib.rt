@@ -1,2 +1,11 @@
-// The export: a book and a span of days as a Calendar file. Its definitions, demand 3, and what it gives; the code is in crate exporting.
-pub mod types;
+// The export: a book and a span of days into a lent buffer as a Calendar file, measured before it is filled.
+pub mod answers;
+pub mod calls;
+mod collecting;
+mod deciding;
+mod filling;
+mod requests;
+mod scattering;
+mod settings;
+mod working;
+mod writing;

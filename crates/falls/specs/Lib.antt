@@ -1,6 +1,5 @@
 -- When a record falls on a day: the rules, the times, and their laws.
 pub mod Falls
-pub mod Times
-pub mod FallsLaws
 pub mod Agrees
-pub mod Examples
+pub mod Times
+pub mod Laws

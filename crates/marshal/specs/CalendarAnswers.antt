@@ -4,7 +4,7 @@ use Rattle.calendar.specs.declared.types.CalendarAnswer.{CalendarAnswer}
 use Rattle.calendar.specs.declared.types.DescriptorAnswer.{DescriptorAnswer}
 use Rattle.calendar.specs.declared.types.CountAnswer.{CountAnswer}
 use Rattle.calendar.specs.declared.types.EntryAnswer.{EntryAnswer}
-use Rattle.export.specs.declared.types.ExportAnswer.{ExportAnswer}
+use Rattle.export.specs.declared.answers.ExportAnswer.{ExportAnswer}
 use Rattle.marshal.specs.declared.page_answers.CountOut.{CountOut}
 use Rattle.marshal.specs.declared.calendar_answers.DescriptorOut.{DescriptorOut}
 use Rattle.marshal.specs.declared.calendar_answers.AppointmentOut.{AppointmentOut}

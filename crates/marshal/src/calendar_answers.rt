@@ -6,7 +6,7 @@ use calendar::types::CalendarAnswer;
 use calendar::types::CountAnswer;
 use calendar::types::DescriptorAnswer;
 use calendar::types::EntryAnswer;
-use export::types::ExportAnswer;
+use export::answers::ExportAnswer;
 
 #[repr(C)]
 pub struct DescriptorOut {

@@ -12,7 +12,7 @@ use Rattle.days.specs.declared.types.CalendarDay.{CalendarDay}
 use Rattle.book.specs.Books.{bookOf}
 use Rattle.book.specs.declared.types.BookAnswer.{BookAnswer}
 use Rattle.falls.specs.declared.types.ShortMonth.{ShortMonth}
-use Rattle.pages.specs.Pages.{numbered, fallsOn, pageOn, lineOf, nth}
+use Rattle.pages.specs.Pages.{numbered, fallsOn, pageOn, pageLineOf, nth}
 use Rattle.pages.specs.Next.{nextOf}
 use Rattle.pages.specs.declared.types.Ready.{Ready}
 use Rattle.pages.specs.declared.types.Validated.{Validated}
@@ -37,15 +37,15 @@ fallsIn f c k (Validated.Ready a) =
 fallsIn f c k (Validated.Refused e) = FallsAnswer.Refused e
 
 -- "It gives its number of lines"
-unfoldable pub countIn : List ℕ → ShortMonth → Validated → CountAnswer
-countIn f c (Validated.Ready a) = CountAnswer.Count (length (pageOn c (a .facts) f))
-countIn f c (Validated.Refused e) = CountAnswer.Refused e
+unfoldable pub pageCountIn : List ℕ → ShortMonth → Validated → CountAnswer
+pageCountIn f c (Validated.Ready a) = CountAnswer.Count (length (pageOn c (a .facts) f))
+pageCountIn f c (Validated.Refused e) = CountAnswer.Refused e
 
 -- "and the line at a place"
-unfoldable pub lineIn : List ℕ → ShortMonth → ℕ → Validated → LineAnswer
-lineIn f c k (Validated.Ready a) =
-    nth (pageOn c (a .facts) f) k (LineAnswer.Refused (refusal noSuchNumber)) (λ x. LineAnswer.Line (lineOf x))
-lineIn f c k (Validated.Refused e) = LineAnswer.Refused e
+unfoldable pub pageLineIn : List ℕ → ShortMonth → ℕ → Validated → LineAnswer
+pageLineIn f c k (Validated.Ready a) =
+    nth (pageOn c (a .facts) f) k (LineAnswer.Refused (refusal noSuchNumber)) (λ x. LineAnswer.Line (pageLineOf x))
+pageLineIn f c k (Validated.Refused e) = LineAnswer.Refused e
 
 -- the text of a line as that stretch of the file; nothing where there is no such line
 unfoldable pub lineText : List ℕ → LineAnswer → List ℕ

@@ -16,13 +16,13 @@ abbrev pub noneFrom : ℕ → NextAnswer
 noneFrom asked = NextAnswer.NoneLeft (lastDay + 1 - asked)
 
 -- the first of the k days from d on that passes
-unfoldable pub firstOf : (ℕ → Bool) → ℕ → ℕ → ℕ → NextAnswer
-firstOf p asked zero d = noneFrom asked
-firstOf p asked (suc k) d = ifB (p d) (foundOn asked d) (firstOf p asked k (suc d))
+unfoldable pub firstShown : (ℕ → Bool) → ℕ → ℕ → ℕ → NextAnswer
+firstShown p asked zero d = noneFrom asked
+firstShown p asked (suc k) d = ifB (p d) (foundOn asked d) (firstShown p asked k (suc d))
 
 -- "the first such day at or after it"
 unfoldable pub nextOf : (ℕ → Bool) → ℕ → NextAnswer
-nextOf p asked = firstOf p asked (lastDay + 1 - asked) asked
+nextOf p asked = firstShown p asked (lastDay + 1 - asked) asked
 
 -- what the answers say, for any test of days
 pub record FirstDay (p : ℕ → Bool) (asked found : ℕ) : Type 0 where

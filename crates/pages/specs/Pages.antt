@@ -3,8 +3,8 @@
 use Prim.Native.Nat.{ℕ, zero, suc}
 use mathlib.Core.Bool.{Bool}
 use mathlib.Core.List.{List, [], _∷_}
-use Rattle.prelude.specs.Keep.{keep}
-use Rattle.prelude.specs.Order.{sort}
+use Rattle.sorting.specs.Keep.{keep}
+use Rattle.sorting.specs.Order.{sort}
 use Rattle.days.specs.declared.types.DayFacts.{DayFacts}
 use Rattle.book.specs.Books.{entriesOf}
 use Rattle.book.specs.declared.types.Entry.{Entry}
@@ -45,8 +45,8 @@ abbrev pub pageOn : ShortMonth → DayFacts → List ℕ → List Numbered
 pageOn c d f = pageOf (fallsOn c d) f
 
 -- a line of the page: record number, start, end, alarm, and the text's stretch
-unfoldable pub lineOf : Numbered → Line
-lineOf x =
+unfoldable pub pageLineOf : Numbered → Line
+pageLineOf x =
     record { number = x .number; start = recordTimes x .start; end = recordTimes x .end; alarm = recordTimes x .alarm; text = x .entry .text }
 
 -- "the line at a place": what some gives of the element at a number, or none where there is none of that number

@@ -5,12 +5,12 @@ ghost use Rattle.days.specs.Facts.{factsOf};
 ghost use Rattle.records.specs.Fields.{recordOf};
 ghost use Rattle.records.specs.Ranges.{recordOk};
 ghost use Rattle.book.specs.Books.{entryAt};
-ghost use Rattle.book.specs.WalkLaws.{RecordAt};
+ghost use Rattle.book.specs.Invariants.{RecordAt};
 ghost use Rattle.falls.specs.Falls.{falls};
-ghost use Rattle.spans.specs.MoveLaws.{FactsAt};
+ghost use Rattle.day_steps.specs.Moves.{FactsAt};
 ghost use Rattle.pages.specs.Answers.{validated, fallsIn, nextIn};
 ghost use Rattle.pages.specs.Next.{nextOf};
-ghost use Rattle.pages.specs.PageLaws.{ReadyBook};
+ghost use Rattle.pages.specs.Invariants.{ReadyBook};
 use crate::types::FallsAnswer;
 use crate::types::NextAnswer;
 use crate::types::Occurrence;
@@ -23,13 +23,13 @@ use days::types::CalendarDay;
 use days::types::DayFacts;
 use falls::rules::falls_on;
 use falls::types::ShortMonth;
+use occurrences::finding::next_shown;
+use occurrences::reading::rule_of;
 use prelude::refusals::NO_SUCH_NUMBER;
 use prelude::refusals::Refusal;
 use prelude::slices::byte;
 use prelude::slices::part;
 use prelude::slices::word;
-use spans::finding::next_shown;
-use spans::reading::rule_of;
 
 // Whether the record at a place of an accepted book falls on a day, asked once.
 fn falls_there(file: &[u8], at: usize, c: ShortMonth, f: DayFacts) -> bool

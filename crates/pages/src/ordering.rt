@@ -4,21 +4,21 @@ ghost use mathlib.Core.List.{map};
 ghost use Prim.Native.Nat.{_≤_};
 ghost use lib.ListN.{length, take};
 ghost use Rattle.book.specs.Books.{entryAt};
-ghost use Rattle.pages.specs.Pages.{pageOn, lineOf};
+ghost use Rattle.pages.specs.Pages.{pageOn, pageLineOf};
 ghost use Rattle.pages.specs.Codes.{code as codeOf, decode};
-ghost use Rattle.pages.specs.PageLaws.{ReadyBook};
+ghost use Rattle.pages.specs.Invariants.{ReadyBook};
 use crate::collecting::collect;
 use crate::collecting::times_at;
 use crate::types::Line;
 use crate::types::Ready;
 use falls::types::ShortMonth;
-use order::ordering::order_codes;
 use prelude::slices::Stretch;
 use prelude::slices::byte;
 use prelude::slices::part;
 use prelude::slices::word;
 use records::fields::fixed_of;
 use records::fields::text_length;
+use sorting::ordering::order_codes;
 
 // The codes of a day's page, in its order, from the first of the lent ones on.
 pub fn page_codes(
@@ -55,7 +55,7 @@ pub fn text_of(file: &[u8], at: usize) -> Stretch
 
 // The line of a code.
 pub fn line_of(file: &[u8], code: u64) -> Line
-    ensures { λ r. ⌜ r ≡ lineOf (decode (now (file .entry)) code) ⌝ }
+    ensures { λ r. ⌜ r ≡ pageLineOf (decode (now (file .entry)) code) ⌝ }
 {
     let number = (code / 65536 % 65536) as usize;
     let at = (code % 65536) as usize;

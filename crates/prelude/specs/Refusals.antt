@@ -1,10 +1,7 @@
 -- Document 01, "The numbers given on refusal", and the requests' numbers: each under a name, in the papers' order.
 -- Assumes nothing.
 use Prim.Native.Nat.{ℕ}
-use mathlib.Core.Path.{_≡_}
-use native.Mathlib.Omega.{arith}
 use Rattle.prelude.specs.declared.refusals.Refusal.{Refusal}
-use Rattle.prelude.specs.declared.refusals.Verdict.{Verdict}
 
 -- 1: book over 65,535 bytes
 abbrev pub bookTooLong : ℕ
@@ -107,7 +104,3 @@ refusalAt n p = record { number = n; place = p }
 -- the refusal of that number where no file byte is meant
 abbrev pub refusal : ℕ → Refusal
 refusal n = refusalAt n 0
-
--- A refusal is no fine verdict.
-pub verdict-not : {e : Refusal} → Verdict.Refused e ≡ Verdict.Fine → ⊥
-verdict-not c = let z : _≡_ {A = ℕ} 0 1 = cc in omega arith

@@ -12,9 +12,9 @@ use Rattle.pages.specs.declared.types.CountAnswer.{CountAnswer}
 use Rattle.printing.specs.Printed.{pageText}
 
 -- how many bytes the printed page has
-unfoldable pub lengthIn : List ℕ → ShortMonth → Validated → CountAnswer
-lengthIn f c (Validated.Ready a) = CountAnswer.Count (length (pageText f c (a .facts)))
-lengthIn f c (Validated.Refused e) = CountAnswer.Refused e
+unfoldable pub pageLengthIn : List ℕ → ShortMonth → Validated → CountAnswer
+pageLengthIn f c (Validated.Ready a) = CountAnswer.Count (length (pageText f c (a .facts)))
+pageLengthIn f c (Validated.Refused e) = CountAnswer.Refused e
 
 -- "12: lent buffer shorter than the .. list to be written"; else how many bytes were written
 abbrev pub textGives : ℕ → List ℕ → CountAnswer

@@ -1,6 +1,5 @@
 -- The printed page: how it looks, what the calls give, and its laws.
 pub mod Printed
 pub mod Answers
-pub mod PrintedLaws
-pub mod SizeLaws
-pub mod Examples
+pub mod Coded
+pub mod Laws

@@ -6,11 +6,11 @@ use mathlib.Core.List.{List, [], _∷_, _++_, map}
 use lib.ListN.{length}
 use Rattle.prelude.specs.Choice.{ifEq}
 use Rattle.prelude.specs.Bytes.{stretchBytes}
+use Rattle.digits.specs.Digits.{two, four, decimal}
 use Rattle.days.specs.declared.types.Date.{Date}
 use Rattle.days.specs.declared.types.DayFacts.{DayFacts}
 use Rattle.falls.specs.declared.types.ShortMonth.{ShortMonth}
-use Rattle.digits.specs.Digits.{two, four, decimal}
-use Rattle.pages.specs.Pages.{pageOn, lineOf}
+use Rattle.pages.specs.Pages.{pageOn, pageLineOf}
 use Rattle.pages.specs.declared.types.Line.{Line}
 
 abbrev pub newline : ℕ
@@ -62,4 +62,4 @@ printed f d ls = headLine d (length ls) ++ pageLines f ls
 
 -- the printed page of the day whose facts are d
 unfoldable pub pageText : List ℕ → ShortMonth → DayFacts → List ℕ
-pageText f c d = printed f d (map lineOf (pageOn c d f))
+pageText f c d = printed f d (map pageLineOf (pageOn c d f))

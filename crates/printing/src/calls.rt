@@ -4,10 +4,10 @@ ghost use Prim.Native.Nat.{_+_, _≤_};
 ghost use lib.ListN.{length};
 ghost use Rattle.prelude.specs.Splice.{splice};
 ghost use Rattle.pages.specs.Answers.{validated};
-ghost use Rattle.pages.specs.PageLaws.{ReadyBook};
+ghost use Rattle.pages.specs.Invariants.{ReadyBook};
 ghost use Rattle.pages.specs.declared.types.Validated.{Validated};
-ghost use Rattle.printing.specs.PrintedLaws.{codedText};
-ghost use Rattle.printing.specs.Answers.{textGives, textLeaves, lengthIn, printIn, printLeaves};
+ghost use Rattle.printing.specs.Coded.{codedText};
+ghost use Rattle.printing.specs.Answers.{textGives, textLeaves, pageLengthIn, printIn, printLeaves};
 use crate::measures::coded_size;
 use crate::measures::page_size;
 use crate::puts::put_head;
@@ -25,7 +25,7 @@ use prelude::refusals::Refusal;
 
 // How many bytes the printed page of a day has.
 pub fn page_length(file: &[u8], n: CalendarDay, c: ShortMonth) -> CountAnswer
-    ensures { λ r. ⌜ r ≡ lengthIn (now (file .entry)) c (validated (now (file .entry)) n) ⌝ }
+    ensures { λ r. ⌜ r ≡ pageLengthIn (now (file .entry)) c (validated (now (file .entry)) n) ⌝ }
 {
     let a = validate(file, n);
     match a {

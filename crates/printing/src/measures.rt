@@ -5,10 +5,10 @@ ghost use Prim.Native.Nat.{_+_, _≤_};
 ghost use lib.ListN.{length};
 ghost use Rattle.prelude.specs.Bytes.{stretchBytes};
 ghost use Rattle.book.specs.Books.{entryAt};
-ghost use Rattle.pages.specs.Pages.{pageOn, lineOf};
-ghost use Rattle.pages.specs.PageLaws.{ReadyBook};
+ghost use Rattle.pages.specs.Pages.{pageOn, pageLineOf};
+ghost use Rattle.pages.specs.Invariants.{ReadyBook};
 ghost use Rattle.printing.specs.Printed.{pageLines, pageText};
-ghost use Rattle.printing.specs.PrintedLaws.{linesOf, codedText};
+ghost use Rattle.printing.specs.Coded.{codedLines, codedText};
 use crate::types::Size;
 use book::entries::next_place;
 use days::types::DayFacts;
@@ -33,7 +33,7 @@ fn line_size(file: &[u8], at: usize) -> usize
 fn measure(file: &[u8], c: ShortMonth, a: Ready) -> Size
     requires { ⌜ ReadyBook (now file) a ⌝ }
     ensures { λ r. ⌜ r .lines ≡ length (pageOn c (a .facts) (now (file .entry))) ⌝ }
-    ensures { λ r. ⌜ r .bytes ≡ length (pageLines (now (file .entry)) (map lineOf (pageOn c (a .facts) (now (file .entry))))) ⌝ }
+    ensures { λ r. ⌜ r .bytes ≡ length (pageLines (now (file .entry)) (map pageLineOf (pageOn c (a .facts) (now (file .entry))))) ⌝ }
 {
     let f = a.facts;
     let mut at: usize = 12;
@@ -63,8 +63,8 @@ pub fn page_size(file: &[u8], c: ShortMonth, a: Ready) -> usize
 
 // The bytes of the lines of codes.
 fn lines_size(file: &[u8], codes: &[u64]) -> usize
-    requires { ⌜ length (pageLines (now file) (linesOf (now file) (now codes))) ≤ 65535 ⌝ }
-    ensures { λ r. ⌜ r ≡ length (pageLines (now (file .entry)) (linesOf (now (file .entry)) (now (codes .entry)))) ⌝ }
+    requires { ⌜ length (pageLines (now file) (codedLines (now file) (now codes))) ≤ 65535 ⌝ }
+    ensures { λ r. ⌜ r ≡ length (pageLines (now (file .entry)) (codedLines (now (file .entry)) (now (codes .entry)))) ⌝ }
 {
     let mut bytes: usize = 0;
     let mut i: usize = 0;

@@ -4,7 +4,7 @@ ghost use Prim.Native.Nat.{_+_, _≤_};
 ghost use lib.ListN.{length};
 ghost use Rattle.prelude.specs.Splice.{splice};
 ghost use Rattle.printing.specs.Printed.{dateText, weekdayName, headLine, clock, pageLine, pageLines};
-ghost use Rattle.printing.specs.PrintedLaws.{linesOf};
+ghost use Rattle.printing.specs.Coded.{codedLines};
 use days::types::Date;
 use days::types::DayFacts;
 use digits::puts::put_byte;
@@ -102,9 +102,9 @@ fn put_line(file: &[u8], l: Line, out: &mut [u8], at: usize) -> usize
 
 // The lines of codes, one behind the other.
 pub fn put_lines(file: &[u8], codes: &[u64], out: &mut [u8], at: usize) -> usize
-    requires { ⌜ at + length (pageLines (now file) (linesOf (now file) (now codes))) ≤ length (now out) ⌝ }
-    ensures next { λ r. ⌜ r ≡ at + length (pageLines (now (file .entry)) (linesOf (now (file .entry)) (now (codes .entry)))) ⌝ }
-    ensures put { λ _. ⌜ now (out .exit) ≡ splice (now (out .entry)) at (pageLines (now (file .entry)) (linesOf (now (file .entry)) (now (codes .entry)))) ⌝ }
+    requires { ⌜ at + length (pageLines (now file) (codedLines (now file) (now codes))) ≤ length (now out) ⌝ }
+    ensures next { λ r. ⌜ r ≡ at + length (pageLines (now (file .entry)) (codedLines (now (file .entry)) (now (codes .entry)))) ⌝ }
+    ensures put { λ _. ⌜ now (out .exit) ≡ splice (now (out .entry)) at (pageLines (now (file .entry)) (codedLines (now (file .entry)) (now (codes .entry)))) ⌝ }
 {
     let mut pos = at;
     let mut i = 0;

@@ -6,9 +6,9 @@ use mathlib.Core.List.{List}
 use lib.ListN.{length}
 use Rattle.prelude.specs.Choice.{ifLt, ifEq, ifB}
 use Rattle.prelude.specs.Refusals.{badLength, badField, badText}
-use Rattle.records.specs.Fields.{datedOf, weeklyOf, monthlyByDateOf, monthlyByPositionOf, yearlyOf, toDoOf, fixedOf, textLength, noteLength, textOf, noteOf}
+use Rattle.texts.specs.Notes.{noZero, noteOk}
+use Rattle.records.specs.Fields.{datedOf, weeklyOf, monthlyByDateOf, monthlyByPositionOf, yearlyOf, toDoOf, fixedOf, textLength, noteLength, bodyText, bodyNote}
 use Rattle.records.specs.Ranges.{datedOk, weeklyOk, monthlyByDateOk, monthlyByPositionOk, yearlyOk, toDoOk, checkOffClean}
-use Rattle.notes.specs.Notes.{noZero, noteOk}
 
 -- "L below the fixed bytes, text over 27, or fixed + text + note over L"
 unfoldable pub lengthsFit : ℕ → ℕ → ℕ → ℕ → Bool
@@ -28,7 +28,7 @@ fieldsOk t p =
 
 -- text and note by their rules
 unfoldable pub textsOk : ℕ → List ℕ → Bool
-textsOk t p = ifB (noZero (textOf t p)) (noteOk (noteOf t p)) false
+textsOk t p = ifB (noZero (bodyText t p)) (noteOk (bodyNote t p)) false
 
 -- the refusal's number for the body of a record of a type 1 to 6, or 0
 unfoldable pub judgeBody : ℕ → List ℕ → ℕ

@@ -27,8 +27,8 @@ dateAt p i = record { year = 1900 + byte p i; month = byte p (i + 1); day = byte
 abbrev pub startAt : List ℕ → ℕ → Minute
 startAt p i = record { 0 = wordHigh p i }
 
-abbrev pub minuteAt : List ℕ → ℕ → Minute
-minuteAt p i = record { 0 = word p i }
+abbrev pub minuteField : List ℕ → ℕ → Minute
+minuteField p i = record { 0 = word p i }
 
 -- "State bit 0 is the alarm (to-do: carry forward); a to-do's bit 1 is checked off"
 abbrev pub bit0 : List ℕ → Bool
@@ -39,7 +39,7 @@ bit1 p = eqb (bitAnd (byte p 0) 2) 2
 
 -- type 1: "s, date, start minute, end minute, lead"
 unfoldable pub datedOf : List ℕ → Dated
-datedOf p = record { alarm = bit0 p; date = dateAt p 1; start = startAt p 4; end = minuteAt p 6; lead = byte p 8 }
+datedOf p = record { alarm = bit0 p; date = dateAt p 1; start = startAt p 4; end = minuteField p 6; lead = byte p 8 }
 
 -- types 2 to 5 from the start minute on, at place i: "start minute, start date", and of the tail "end minute, end date, lead"
 unfoldable pub repeatOf : List ℕ → ℕ → Repeat
@@ -48,7 +48,7 @@ repeatOf p i =
       alarm = bit0 p;
       start = startAt p i;
       first = dateAt p (i + 2);
-      end = minuteAt p (i + 5);
+      end = minuteField p (i + 5);
       last = dateAt p (i + 7);
       lead = byte p (i + 10);
     }
@@ -97,8 +97,8 @@ abbrev pub noteLength : ℕ → List ℕ → ℕ
 noteLength t p = word p (fixedOf t - 2)
 
 -- "Text follows, then note"
-abbrev pub textOf : ℕ → List ℕ → List ℕ
-textOf t p = part p (fixedOf t) (textLength t p)
+abbrev pub bodyText : ℕ → List ℕ → List ℕ
+bodyText t p = part p (fixedOf t) (textLength t p)
 
-abbrev pub noteOf : ℕ → List ℕ → List ℕ
-noteOf t p = part p (fixedOf t + textLength t p) (noteLength t p)
+abbrev pub bodyNote : ℕ → List ℕ → List ℕ
+bodyNote t p = part p (fixedOf t + textLength t p) (noteLength t p)

@@ -1,12 +1,7 @@
--- The records of a book: fields, ranges, the judgement of a body, the encoding. Laws stand in files named so.
+-- The records of a book: fields, ranges, the judgement of a body, the encoding.
 pub mod Fields
 pub mod Ranges
 pub mod Bodies
 pub mod Encoding
-pub mod RangeLaws
-pub mod KindLaws
-pub mod EncodingLaws
-pub mod BodyLaws
-pub mod JudgeLaws
-pub mod AgainLaws
-pub mod Layouts
+pub mod Invariants
+pub mod Laws

@@ -6,6 +6,7 @@ use mathlib.Core.List.{List}
 use Rattle.prelude.specs.Choice.{ifLt, ifEq, ifB}
 use Rattle.prelude.specs.Bytes.{byte}
 use Rattle.days.specs.Dates.{monthLength, real, before}
+use Rattle.records.specs.Fields.{bit1}
 use Rattle.records.specs.declared.types.Dated.{Dated}
 use Rattle.records.specs.declared.types.Repeat.{Repeat}
 use Rattle.records.specs.declared.types.Weekly.{Weekly}
@@ -15,7 +16,6 @@ use Rattle.records.specs.declared.types.Yearly.{Yearly}
 use Rattle.records.specs.declared.types.CheckOff.{CheckOff}
 use Rattle.records.specs.declared.types.ToDo.{ToDo}
 use Rattle.records.specs.declared.types.Record.{Record}
-use Rattle.records.specs.Fields.{bit1}
 
 -- "Minutes 0..1,439, end not before start. Lead 0..30."
 unfoldable pub timesOk : ℕ → ℕ → ℕ → Bool

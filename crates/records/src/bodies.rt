@@ -5,7 +5,7 @@ ghost use lib.ListN.{length};
 ghost use mathlib.Core.Bool.{false};
 ghost use Rattle.prelude.specs.Choice.{ifB};
 ghost use Rattle.prelude.specs.Bytes.{part};
-ghost use Rattle.notes.specs.Notes.{noZero, noteOk};
+ghost use Rattle.texts.specs.Notes.{noZero, noteOk};
 ghost use Rattle.records.specs.Bodies.{fieldsOk, judgeBody};
 use crate::fields::dated_of;
 use crate::fields::fixed_of;
@@ -21,13 +21,13 @@ use crate::ranges::monthly_by_position_ok;
 use crate::ranges::to_do_ok;
 use crate::ranges::weekly_ok;
 use crate::ranges::yearly_ok;
-use notes::rules::no_zero;
-use notes::rules::note_ok_at;
 use prelude::numbers::wide_size;
 use prelude::refusals::BAD_FIELD;
 use prelude::refusals::BAD_LENGTH;
 use prelude::refusals::BAD_TEXT;
 use prelude::slices::word_in;
+use texts::rules::no_zero;
+use texts::rules::note_ok_at;
 
 fn fields_ok(t: u8, p: &[u8]) -> bool
     ensures { λ r. ⌜ r ≡ fieldsOk t (now (p .entry)) ⌝ }

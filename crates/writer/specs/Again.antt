@@ -5,11 +5,11 @@ use mathlib.Core.Path.{_≡_}
 use mathlib.Core.Bool.{true}
 use mathlib.Core.List.{List, [], _∷_, map}
 use lib.ListN.{length, getD}
-use Rattle.records.specs.Fields.{recordOf, fixedOf, textLength, noteLength, textOf, noteOf}
+use Rattle.records.specs.Fields.{recordOf, fixedOf, textLength, noteLength, bodyText, bodyNote}
 use Rattle.records.specs.Encoding.{plainState}
-use Rattle.book.specs.Walk.{typeAt, lengthAt, bodyAt}
+use Rattle.book.specs.Walk.{typeAt, bodyLengthAt, bodyAt}
 use Rattle.book.specs.Fillers.{fillersOf}
-use Rattle.book.specs.Books.{bookOf, placesOf, recordAnswer, textIn, noteIn}
+use Rattle.book.specs.Books.{bookOf, placesOf, recordAnswer, recordTextIn, recordNoteIn}
 use Rattle.book.specs.declared.types.Settings.{Settings}
 use Rattle.book.specs.declared.types.BookAnswer.{BookAnswer}
 use Rattle.book.specs.declared.types.Entry.{Entry}
@@ -21,8 +21,8 @@ unfoldable pub itemAt : List ℕ → ℕ → Item
 itemAt f at =
     record {
       kind = recordOf (typeAt f at) (bodyAt f at);
-      text = textOf (typeAt f at) (bodyAt f at);
-      note = noteOf (typeAt f at) (bodyAt f at);
+      text = bodyText (typeAt f at) (bodyAt f at);
+      note = bodyNote (typeAt f at) (bodyAt f at);
     }
 
 -- the records of a book, in the book's order
@@ -31,7 +31,7 @@ itemsOf f = map (itemAt f) (placesOf f)
 
 -- "padding up to L, ignored and never written": there is none; "other bits are ignored when read and written as 0": none is set
 pub record PlainAt (f : List ℕ) (at : ℕ) : Type 0 where
-  pub tight : lengthAt f at ≡ fixedOf (typeAt f at) + textLength (typeAt f at) (bodyAt f at) + noteLength (typeAt f at) (bodyAt f at)
+  pub tight : bodyLengthAt f at ≡ fixedOf (typeAt f at) + textLength (typeAt f at) (bodyAt f at) + noteLength (typeAt f at) (bodyAt f at)
   pub named : plainState (typeAt f at) (bodyAt f at) ≡ true
 
 -- what holds at each place of a list
@@ -50,8 +50,8 @@ pub record Reads (f : List ℕ) (k : ℕ) (i : Item) : Type 0 where
   pub entry : Entry
   pub found : recordAnswer f k ≡ RecordAnswer.Record entry
   pub «record» : entry .«record» ≡ i .kind
-  pub text : textIn f (recordAnswer f k) ≡ i .text
-  pub note : noteIn f (recordAnswer f k) ≡ i .note
+  pub text : recordTextIn f (recordAnswer f k) ≡ i .text
+  pub note : recordNoteIn f (recordAnswer f k) ≡ i .note
 
 -- a file reads as a book with these settings and items; an item is named by its number, and the other argument of getD never counts
 pub record ReadsAs (f : List ℕ) (s : Settings) (is : List Item) : Type 0 where

@@ -7,7 +7,7 @@ use mathlib.Core.List.{List, [], _∷_, _++_}
 use lib.ListN.{length, take}
 use Rattle.prelude.specs.Splice.{splice}
 use Rattle.prelude.specs.declared.refusals.Refusal.{Refusal}
-use Rattle.notes.specs.Notes.{noZero, noteOk}
+use Rattle.texts.specs.Notes.{noZero, noteOk}
 use Rattle.records.specs.Ranges.{recordOk}
 use Rattle.records.specs.Encoding.{encode}
 use Rattle.records.specs.declared.types.Record.{Record}
@@ -29,20 +29,20 @@ pub data Run : Type 0 where
   refused : Refusal → Run
 
 -- after a call: on with the state that it gave and the buffer that it left
-abbrev pub after : WriteAnswer → List ℕ → (Writer → List ℕ → Run) → Run
-after (WriteAnswer.Done w) b next = next w b
-after (WriteAnswer.Refused e w) b next = refused e
+abbrev pub afterCall : WriteAnswer → List ℕ → (Writer → List ℕ → Run) → Run
+afterCall (WriteAnswer.Done w) b next = next w b
+afterCall (WriteAnswer.Refused e w) b next = refused e
 
 unfoldable pub finish : Writer → List ℕ → Run
-finish w b = after (closeGives w (length b)) (closeLeaves w b) (λ w′ b′. done w′ b′)
+finish w b = afterCall (closeGives w (length b)) (closeLeaves w b) (λ w′ b′. done w′ b′)
 
 unfoldable pub adds : List Item → Writer → List ℕ → Run
 adds [] w b = finish w b
 adds (i ∷ is) w b =
-    after (addGives w (length b) (i .kind) (i .text) (i .note)) (addLeaves w b (i .kind) (i .text) (i .note)) (λ w′ b′. adds is w′ b′)
+    afterCall (addGives w (length b) (i .kind) (i .text) (i .note)) (addLeaves w b (i .kind) (i .text) (i .note)) (λ w′ b′. adds is w′ b′)
 
 unfoldable pub writing : Settings → List Item → List ℕ → Run
-writing s is b = after (openGives s (length b)) (openLeaves s b) (λ w′ b′. adds is w′ b′)
+writing s is b = afterCall (openGives s (length b)) (openLeaves s b) (λ w′ b′. adds is w′ b′)
 
 -- the state of a book that is being written, so many bytes used
 abbrev pub opened : ℕ → Writer

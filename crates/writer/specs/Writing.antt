@@ -8,8 +8,8 @@ use Rattle.prelude.specs.Choice.{ifLt, ifEq, ifB}
 use Rattle.prelude.specs.Bytes.{bit, le16}
 use Rattle.prelude.specs.Splice.{splice}
 use Rattle.prelude.specs.Refusals.{badSettings, badLength, badField, badText, noRoom, notOpen, refusal}
+use Rattle.texts.specs.Notes.{noZero, noteOk}
 use Rattle.records.specs.Ranges.{recordOk}
-use Rattle.notes.specs.Notes.{noZero, noteOk}
 use Rattle.records.specs.Encoding.{encode}
 use Rattle.records.specs.declared.types.Record.{Record}
 use Rattle.book.specs.Settings.{settingsInRange}
@@ -18,12 +18,12 @@ use Rattle.writer.specs.declared.types.Writer.{Writer}
 use Rattle.writer.specs.declared.types.WriteAnswer.{WriteAnswer}
 
 -- done with the next state where the number is 0, else refused with the state that came
-unfoldable pub gives : ℕ → Writer → Writer → WriteAnswer
-gives n next came = ifEq n 0 (WriteAnswer.Done next) (WriteAnswer.Refused (refusal n) came)
+unfoldable pub givesWhere : ℕ → Writer → Writer → WriteAnswer
+givesWhere n next came = ifEq n 0 (WriteAnswer.Done next) (WriteAnswer.Refused (refusal n) came)
 
 -- the buffer with bytes written at a place where the number is 0, else as it was
-unfoldable pub leaves : ℕ → List ℕ → ℕ → List ℕ → List ℕ
-leaves n buffer at bytes = ifEq n 0 (splice buffer at bytes) buffer
+unfoldable pub leavesWhere : ℕ → List ℕ → ℕ → List ℕ → List ℕ
+leavesWhere n buffer at bytes = ifEq n 0 (splice buffer at bytes) buffer
 
 -- "Identification, 5 bytes"; "Settings, 7 bytes"
 unfoldable pub openBytes : Settings → List ℕ
@@ -35,10 +35,10 @@ unfoldable pub openRefusal : Settings → ℕ → ℕ
 openRefusal s size = ifB (settingsInRange s) (ifLt size 15 noRoom 0) badSettings
 
 unfoldable pub openGives : Settings → ℕ → WriteAnswer
-openGives s size = gives (openRefusal s size) (record { used = 12; closed = false }) (record { used = 0; closed = false })
+openGives s size = givesWhere (openRefusal s size) (record { used = 12; closed = false }) (record { used = 0; closed = false })
 
 unfoldable pub openLeaves : Settings → List ℕ → List ℕ
-openLeaves s b = leaves (openRefusal s (length b)) b 0 (openBytes s)
+openLeaves s b = leavesWhere (openRefusal s (length b)) b 0 (openBytes s)
 
 -- "used + record + 3 exceeds the buffer or 65,535"
 unfoldable pub roomRefusal : ℕ → ℕ → ℕ
@@ -62,10 +62,10 @@ addRefusal w size r text note =
 
 unfoldable pub addGives : Writer → ℕ → Record → List ℕ → List ℕ → WriteAnswer
 addGives w size r text note =
-    gives (addRefusal w size r text note) (record { used = w .used + length (encode r text note); closed = false }) w
+    givesWhere (addRefusal w size r text note) (record { used = w .used + length (encode r text note); closed = false }) w
 
 unfoldable pub addLeaves : Writer → List ℕ → Record → List ℕ → List ℕ → List ℕ
-addLeaves w b r text note = leaves (addRefusal w (length b) r text note) b (w .used) (encode r text note)
+addLeaves w b r text note = leavesWhere (addRefusal w (length b) r text note) b (w .used) (encode r text note)
 
 -- "close (14, 12)": the end record, "32 00 00"
 abbrev pub endBytes : List ℕ
@@ -75,7 +75,7 @@ unfoldable pub closeRefusal : Writer → ℕ → ℕ
 closeRefusal w size = ifB (stateOpen w) (roomRefusal size (w .used)) notOpen
 
 unfoldable pub closeGives : Writer → ℕ → WriteAnswer
-closeGives w size = gives (closeRefusal w size) (record { used = w .used + 3; closed = true }) w
+closeGives w size = givesWhere (closeRefusal w size) (record { used = w .used + 3; closed = true }) w
 
 unfoldable pub closeLeaves : Writer → List ℕ → List ℕ
-closeLeaves w b = leaves (closeRefusal w (length b)) b (w .used) endBytes
+closeLeaves w b = leavesWhere (closeRefusal w (length b)) b (w .used) endBytes

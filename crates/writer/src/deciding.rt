@@ -5,14 +5,12 @@ ghost use lib.ListN.{length};
 ghost use Rattle.prelude.specs.Choice.{ifB, ifLt};
 ghost use Rattle.prelude.specs.Refusals.{badText};
 ghost use Rattle.records.specs.Fields.{fixedOf};
-ghost use Rattle.notes.specs.Notes.{noZero, noteOk};
+ghost use Rattle.texts.specs.Notes.{noZero, noteOk};
 ghost use Rattle.records.specs.Encoding.{typeOf, encode};
 ghost use Rattle.writer.specs.Writing.{openRefusal, roomRefusal, stateOpen, addRefusal, closeRefusal};
 use crate::types::Writer;
 use book::settings::settings_in_range;
 use book::types::Settings;
-use notes::rules::no_zero;
-use notes::rules::note_ok;
 use prelude::refusals::BAD_FIELD;
 use prelude::refusals::BAD_LENGTH;
 use prelude::refusals::BAD_SETTINGS;
@@ -21,6 +19,8 @@ use prelude::refusals::NO_ROOM;
 use prelude::refusals::NOT_OPEN;
 use records::ranges::record_ok;
 use records::types::Record;
+use texts::rules::no_zero;
+use texts::rules::note_ok;
 
 pub fn open_refusal(s: Settings, size: usize) -> u32
     ensures { λ r. ⌜ r ≡ openRefusal s size ⌝ }

@@ -2,7 +2,7 @@
 ghost use mathlib.Core.Path.{_≡_};
 ghost use Prim.Native.Nat.{_≤_, _<_};
 ghost use Rattle.records.specs.declared.types.Record.{Record};
-ghost use Rattle.writer.specs.Heads.{headBytes, shortHead, longHead, toDoHead, DatedFit, RepeatFit, ToDoFit};
+ghost use Rattle.writer.specs.Heads.{recordHead, shortHead, longHead, toDoHead, DatedFit, RepeatFit, ToDoFit};
 use crate::bytes::small;
 use crate::bytes::year;
 use prelude::numbers::bit_of;
@@ -17,7 +17,7 @@ pub fn dated_head(d: Dated, t: u16, n: u16) -> [u8; 15]
     requires { ⌜ DatedFit d ⌝ }
     requires { ⌜ t ≤ 27 ⌝ }
     requires { ⌜ n ≤ 440 ⌝ }
-    ensures { λ r. ⌜ r ≡ headBytes (Record.Dated d) t n ⌝ }
+    ensures { λ r. ⌜ r ≡ recordHead (Record.Dated d) t n ⌝ }
 {
     let l = 12 + t + n;
     [
@@ -136,7 +136,7 @@ pub fn to_do_head(d: ToDo, t: u16, n: u16) -> [u8; 14]
     requires { ⌜ ToDoFit d ⌝ }
     requires { ⌜ t ≤ 27 ⌝ }
     requires { ⌜ n ≤ 440 ⌝ }
-    ensures { λ r. ⌜ r ≡ headBytes (Record.ToDo d) t n ⌝ }
+    ensures { λ r. ⌜ r ≡ recordHead (Record.ToDo d) t n ⌝ }
 {
     let c = d.check_off;
     let CheckOff::On(on) = c else {

@@ -8,7 +8,7 @@ ghost use mathlib.Core.Bool.{true};
 ghost use Rattle.records.specs.Ranges.{recordOk};
 ghost use Rattle.records.specs.Encoding.{encode};
 ghost use Rattle.records.specs.declared.types.Record.{Record};
-ghost use Rattle.writer.specs.Heads.{headBytes, shortHead, longHead, DatedFit, RepeatFit, ToDoFit, Lengths, Put};
+ghost use Rattle.writer.specs.Heads.{recordHead, shortHead, longHead, DatedFit, RepeatFit, ToDoFit, Lengths, Put};
 use crate::heads::dated_head;
 use crate::heads::long_head;
 use crate::heads::short_head;
@@ -33,8 +33,8 @@ fn put_three(buf: &mut [u8], at: usize, a: &[u8], b: &[u8], c: &[u8]) -> usize
 fn put_dated(buf: &mut [u8], at: usize, d: Dated, text: &[u8], note: &[u8]) -> usize
     requires { ⌜ DatedFit d ⌝ }
     requires { ⌜ Lengths (now text) (now note) ⌝ }
-    requires { ⌜ at + length (headBytes (Record.Dated d) (length (now text)) (length (now note)) ++ (now text ++ now note)) ≤ length (now buf) ⌝ }
-    ensures { λ r. ⌜ Put at (headBytes (Record.Dated d) (length (now (text .entry))) (length (now (note .entry))) ++ (now (text .entry) ++ now (note .entry))) (now (buf .entry)) r (now (buf .exit)) ⌝ }
+    requires { ⌜ at + length (recordHead (Record.Dated d) (length (now text)) (length (now note)) ++ (now text ++ now note)) ≤ length (now buf) ⌝ }
+    ensures { λ r. ⌜ Put at (recordHead (Record.Dated d) (length (now (text .entry))) (length (now (note .entry))) ++ (now (text .entry) ++ now (note .entry))) (now (buf .entry)) r (now (buf .exit)) ⌝ }
 {
     let head = dated_head(d, text.len() as u16, note.len() as u16);
     put_three(buf, at, &head, text, note)
@@ -83,8 +83,8 @@ fn put_long(
 fn put_to_do(buf: &mut [u8], at: usize, d: ToDo, text: &[u8], note: &[u8]) -> usize
     requires { ⌜ ToDoFit d ⌝ }
     requires { ⌜ Lengths (now text) (now note) ⌝ }
-    requires { ⌜ at + length (headBytes (Record.ToDo d) (length (now text)) (length (now note)) ++ (now text ++ now note)) ≤ length (now buf) ⌝ }
-    ensures { λ r. ⌜ Put at (headBytes (Record.ToDo d) (length (now (text .entry))) (length (now (note .entry))) ++ (now (text .entry) ++ now (note .entry))) (now (buf .entry)) r (now (buf .exit)) ⌝ }
+    requires { ⌜ at + length (recordHead (Record.ToDo d) (length (now text)) (length (now note)) ++ (now text ++ now note)) ≤ length (now buf) ⌝ }
+    ensures { λ r. ⌜ Put at (recordHead (Record.ToDo d) (length (now (text .entry))) (length (now (note .entry))) ++ (now (text .entry) ++ now (note .entry))) (now (buf .entry)) r (now (buf .exit)) ⌝ }
 {
     let head = to_do_head(d, text.len() as u16, note.len() as u16);
     put_three(buf, at, &head, text, note)

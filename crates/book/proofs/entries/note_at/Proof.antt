@@ -1,7 +1,7 @@
 -- `note_at` meets its contract: the stretch of the record there, or nothing.
 -- Assumes nothing.
 use mathlib.Core.Path.{sym, ap, _∙_}
-use Rattle.book.specs.Books.{noteIn}
+use Rattle.book.specs.Books.{recordNoteIn}
 use borrow.Author.Needs.{needs}
 use Rattle.book.proofs.entries.note_at.Statement.{statement}
 use Rattle.book.proofs.entries.note_at.Tie as tie
@@ -22,12 +22,12 @@ slice-aggregate-result : tie.Need-slice-aggregate-result
 slice-aggregate-result c = search needs
 
 returns : tie.Need-returns
-unfolding noteIn
-returns c = c .part .ensures ∙ ap (noteIn _) (sym (sym (c .before .before .before .before .record-at .ensures) ∙ c .before .before .a .given .1))
+unfolding recordNoteIn
+returns c = c .part .ensures ∙ ap (recordNoteIn _) (sym (sym (c .before .before .before .before .record-at .ensures) ∙ c .before .before .a .given .1))
 
 returns-2 : tie.Need-returns-2
-unfolding noteIn
-returns-2 c = ap (noteIn _) (sym (sym (c .before .before .before .record-at .ensures) ∙ c .before .enum-told .given .1))
+unfolding recordNoteIn
+returns-2 c = ap (recordNoteIn _) (sym (sym (c .before .before .before .record-at .ensures) ∙ c .before .enum-told .given .1))
 
 pub note-at-spec : {M : Type 1} → statement M
 note-at-spec =

@@ -4,7 +4,7 @@ use native.Mathlib.Omega.{arith}
 use Prim.Native.Nat.{_≤_, _-_}
 use mathlib.Core.Path.{_≡_, sym}
 use native.Mathlib.Numerals.{add-one}
-use Rattle.book.specs.BookLaws.{Cursor, cursor-first, Ahead, cursor-ahead}
+use Rattle.book.specs.Laws.Books.{Cursor, cursor-first, Ahead, cursor-ahead}
 use Rattle.book.proofs.entries.place_of.Statement.{statement}
 use Rattle.book.proofs.entries.place_of.Tie as tie
 

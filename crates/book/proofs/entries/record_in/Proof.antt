@@ -2,9 +2,9 @@
 -- Assumes nothing.
 use native.Mathlib.Omega.{arith}
 use mathlib.Core.Path.{refl, ap, _∙_}
-use Rattle.prelude.specs.Choice.{lt-yes, lt-no}
+use Rattle.prelude.specs.Laws.Choice.{lt-yes, lt-no}
 use Rattle.book.specs.Books.{entryAt, recordFrom}
-use Rattle.book.specs.EntryLaws.{record-there}
+use Rattle.book.specs.Laws.Entries.{record-there}
 use Rattle.book.specs.declared.types.RecordAnswer.{RecordAnswer}
 use borrow.Author.Needs.{needs}
 use Rattle.book.proofs.entries.record_in.Statement.{statement}

@@ -5,10 +5,10 @@ use native.Mathlib.Nat.{add-sub-cancel-left}
 use Prim.Native.Nat.{ℕ, _+_, _≤_}
 use mathlib.Core.List.{List}
 use Rattle.records.specs.Fields.{fixedOf}
-use Rattle.records.specs.JudgeLaws.{fixed-range}
-use Rattle.book.specs.Walk.{typeAt, lengthAt}
+use Rattle.records.specs.Laws.Judged.{fixed-range}
+use Rattle.book.specs.Walk.{typeAt, bodyLengthAt}
 use Rattle.book.specs.Books.{entryAt}
-use Rattle.book.specs.EntryLaws.{fixed-most}
+use Rattle.book.specs.Laws.Entries.{fixed-most}
 use borrow.Author.Needs.{needs}
 use Rattle.book.proofs.entries.texts_at.Statement.{statement}
 use Rattle.book.proofs.entries.texts_at.Tie as tie
@@ -49,7 +49,7 @@ file c = c .before .before .before .before .before .args .file .now
 abbrev at : tie.After-fixed-of → ℕ
 at c = c .before .before .before .before .before .args .at
 
-most : (c : tie.After-fixed-of) → fixedOf (typeAt (file c) (at c)) ≤ lengthAt (file c) (at c)
+most : (c : tie.After-fixed-of) → fixedOf (typeAt (file c) (at c)) ≤ bodyLengthAt (file c) (at c)
 most c = fixed-most (file c) (at c) (c .before .before .before .before .before .pre)
 
 add-text : tie.Need-add-text

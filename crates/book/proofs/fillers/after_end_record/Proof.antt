@@ -3,9 +3,9 @@
 use mathlib.Core.Path.{refl, sym}
 use native.Mathlib.Omega.{arith}
 use borrow.Author.Needs.{needs}
-use Rattle.prelude.specs.Choice.{lt-yes, lt-no}
+use Rattle.prelude.specs.Laws.Choice.{lt-yes, lt-no}
 use Rattle.book.specs.Fillers.{afterEndRecord}
-use Rattle.book.specs.FillerLaws.{nothing-after}
+use Rattle.book.specs.Laws.Fillers.{nothing-after}
 use Rattle.book.proofs.fillers.after_end_record.Statement.{statement}
 use Rattle.book.proofs.fillers.after_end_record.Tie as tie
 

@@ -8,7 +8,7 @@ use Rattle.prelude.specs.Bytes.{byte}
 use Rattle.prelude.specs.Refusals.{afterEnd, refusalAt}
 use Rattle.prelude.specs.declared.refusals.Verdict.{Verdict}
 use Rattle.book.specs.Fillers.{filler, fillersFrom}
-use Rattle.book.specs.FillerLaws.{filler-on, filler-other, filler-end}
+use Rattle.book.specs.Laws.Fillers.{filler-on, filler-other, filler-end}
 use Rattle.book.proofs.fillers.fillers_from.Statement.{statement}
 use Rattle.book.proofs.fillers.fillers_from.Tie as tie
 

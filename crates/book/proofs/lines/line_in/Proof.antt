@@ -5,13 +5,13 @@ use Prim.Native.Nat.{ℕ, _+_}
 use mathlib.Core.Path.{_≡_, refl, _∙_, ap}
 use mathlib.Core.List.{List}
 use lib.ListN.{length, drop, length-take}
-use Rattle.prelude.specs.Choice.{lt-yes, lt-no}
+use Rattle.prelude.specs.Laws.Choice.{lt-yes, lt-no}
 use Rattle.prelude.specs.Bytes.{stretchBytes, part}
-use Rattle.notes.specs.Notes.{linesOf}
-use Rattle.notes.specs.Lines.{lineAt}
-use Rattle.notes.specs.LineLaws.{line-inside}
+use Rattle.texts.specs.Notes.{linesOf}
+use Rattle.texts.specs.Lines.{lineAt}
+use Rattle.texts.specs.Laws.Lines.{line-inside}
 use Rattle.prelude.specs.declared.slices.Stretch.{Stretch}
-use Rattle.book.specs.Lines.{lineOf}
+use Rattle.book.specs.Lines.{noteLineOf}
 use Rattle.book.specs.declared.types.StretchAnswer.{StretchAnswer}
 use borrow.Author.Needs.{needs}
 use Rattle.book.proofs.lines.line_in.Statement.{statement}
@@ -37,7 +37,7 @@ add-t9 c =
     omega (arith, ap (λ (s : Stretch). s .place) (c .before .line-at .ensures), line-inside n (b .before .before .args .j), ap length (b .part .ensures), length-take (b .before .before .args .s .length) (drop (b .before .before .args .s .place) (b .before .before .args .file .now)))
 
 returns : tie.Need-returns
-unfolding lineOf
+unfolding noteLineOf
 returns c =
     let b = c .before .before .before .before in
     let g = c .before .line-at .ensures ∙ ap (λ (n : List ℕ). lineAt n (b .before .before .args .j)) (b .part .ensures) in
@@ -45,7 +45,7 @@ returns c =
     (ap (λ (l : Stretch). StretchAnswer.Stretch (record { place = b .before .before .args .s .place + l .place; length = l .length })) g)
 
 returns-2 : tie.Need-returns-2
-unfolding lineOf
+unfolding noteLineOf
 returns-2 c = lt-no _ _ _ (omega (arith, lines (c .before))) refl
 
 pub line-in-spec : {M : Type 1} → statement M

@@ -4,8 +4,8 @@ use native.Mathlib.Omega.{arith}
 use Prim.Native.Nat.{ℕ}
 use mathlib.Core.Path.{ap, _∙_}
 use Rattle.book.specs.Books.{entryAt}
-use Rattle.book.specs.EntryLaws.{record-there}
-use Rattle.book.specs.NoteLaws.{note-there, note-past}
+use Rattle.book.specs.Laws.Entries.{record-there}
+use Rattle.book.specs.Laws.Notes.{note-there, note-past}
 use borrow.Author.Needs.{needs}
 use Rattle.book.proofs.lines.note_in.Statement.{statement}
 use Rattle.book.proofs.lines.note_in.Tie as tie

@@ -1,8 +1,8 @@
 -- `note_line` meets its contract: the note's answer decides, and the note lies in the file.
 -- Assumes nothing.
 use mathlib.Core.Path.{sym, ap, _∙_}
-use Rattle.book.specs.Lines.{lineIn, lineAnswer}
-use Rattle.book.specs.NoteLaws.{note-inside}
+use Rattle.book.specs.Lines.{noteLineIn, lineAnswer}
+use Rattle.book.specs.Laws.Notes.{note-inside}
 use borrow.Author.Needs.{needs}
 use Rattle.book.proofs.lines.note_line.Statement.{statement}
 use Rattle.book.proofs.lines.note_line.Tie as tie
@@ -20,12 +20,12 @@ enum-known-a-2 : tie.Need-enum-known-a-2
 enum-known-a-2 c = search needs
 
 returns : tie.Need-returns
-unfolding lineAnswer lineIn
-returns c = c .line-in .ensures ∙ ap (lineIn _ _) (sym (sym (c .before .before .before .before .note-of .ensures) ∙ c .before .before .a .given .1))
+unfolding lineAnswer noteLineIn
+returns c = c .line-in .ensures ∙ ap (noteLineIn _ _) (sym (sym (c .before .before .before .before .note-of .ensures) ∙ c .before .before .a .given .1))
 
 returns-2 : tie.Need-returns-2
-unfolding lineAnswer lineIn
-returns-2 c = ap (lineIn _ _) (sym (sym (c .before .before .before .note-of .ensures) ∙ c .before .a2 .given .1))
+unfolding lineAnswer noteLineIn
+returns-2 c = ap (noteLineIn _ _) (sym (sym (c .before .before .before .note-of .ensures) ∙ c .before .a2 .given .1))
 
 pub note-line-spec : {M : Type 1} → statement M
 note-line-spec =

@@ -4,7 +4,7 @@ use Prim.Native.Nat.{ℕ}
 use mathlib.Core.Path.{sym, ap, _∙_}
 use mathlib.Core.List.{List}
 use lib.ListN.{length}
-use Rattle.notes.specs.Notes.{linesOf}
+use Rattle.texts.specs.Notes.{linesOf}
 use Rattle.book.specs.Lines.{linesIn, linesAnswer}
 use Rattle.book.specs.declared.types.LinesAnswer.{LinesAnswer}
 use borrow.Author.Needs.{needs}

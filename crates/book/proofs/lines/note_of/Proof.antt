@@ -2,7 +2,7 @@
 -- Assumes nothing.
 use mathlib.Core.Path.{sym, ap, _∙_}
 use Rattle.book.specs.Books.{recordFrom, recordAnswer}
-use Rattle.book.specs.BookLaws.{book-accepted}
+use Rattle.book.specs.Laws.Books.{book-accepted}
 use Rattle.book.specs.Lines.{noteFrom}
 use borrow.Author.Needs.{needs}
 use Rattle.book.proofs.lines.note_of.Statement.{statement}

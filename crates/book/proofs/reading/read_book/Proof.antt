@@ -1,9 +1,9 @@
 -- `read_book` meets its contract: each return is the choice that its tests make.
 -- Assumes nothing.
-use Rattle.prelude.specs.Choice.{picks}
+use Rattle.prelude.specs.Laws.Choice.{picks}
 use mathlib.Core.Path.{sym, _∙_}
 use Rattle.book.specs.Books.{bookOf}
-use Rattle.book.specs.BookLaws.{settings-long}
+use Rattle.book.specs.Laws.Books.{settings-long}
 use borrow.Author.Needs.{needs}
 use Rattle.book.proofs.reading.read_book.Statement.{statement}
 use Rattle.book.proofs.reading.read_book.Tie as tie

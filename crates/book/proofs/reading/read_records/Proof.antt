@@ -11,7 +11,8 @@ use Rattle.book.specs.Walk.{stepAt, walkFrom, walkOf, nextPlace}
 use Rattle.book.specs.Fillers.{afterEndRecord}
 use Rattle.book.specs.Books.{accepted, counted}
 use Rattle.book.specs.Settings.{settingsOf}
-use Rattle.book.specs.WalkLaws.{At, at-first, at-next, RecordAt, step-record, step-end, walk-record, walk-end, walk-stop}
+use Rattle.book.specs.Laws.Walk.{At, at-first, at-next, step-record, step-end, walk-record, walk-end, walk-stop}
+use Rattle.book.specs.Invariants.{RecordAt}
 use Rattle.book.specs.declared.types.StepAnswer.{StepAnswer}
 use Rattle.book.proofs.reading.read_records.Statement.{statement}
 use Rattle.book.proofs.reading.read_records.Tie as tie

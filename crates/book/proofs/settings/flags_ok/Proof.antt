@@ -1,6 +1,6 @@
 -- `flags_ok` meets its contract: each return is the choice that its tests make.
 -- Assumes nothing.
-use Rattle.prelude.specs.Choice.{picks}
+use Rattle.prelude.specs.Laws.Choice.{picks}
 use Rattle.book.specs.Settings.{flagsOk}
 use Rattle.book.proofs.settings.flags_ok.Statement.{statement}
 use Rattle.book.proofs.settings.flags_ok.Tie as tie

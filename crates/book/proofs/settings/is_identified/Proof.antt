@@ -1,6 +1,6 @@
 -- `is_identified` meets its contract: it is what its callees give.
 -- Assumes nothing.
-use Rattle.book.specs.Settings.{identified}
+use Rattle.book.specs.Settings.{bookIdentified}
 use borrow.Author.Needs.{needs}
 use Rattle.book.proofs.settings.is_identified.Statement.{statement}
 use Rattle.book.proofs.settings.is_identified.Tie as tie
@@ -24,7 +24,7 @@ same-bytes-requires : tie.Need-same-bytes-requires
 same-bytes-requires c κs = search needs
 
 returns : tie.Need-returns
-unfolding identified
+unfolding bookIdentified
 returns c = cc
 
 pub is-identified-spec : {M : Type 1} → statement M

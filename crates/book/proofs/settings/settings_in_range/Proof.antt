@@ -1,6 +1,6 @@
 -- `settings_in_range` meets its contract: each return is the choice that its tests make.
 -- Assumes nothing.
-use Rattle.prelude.specs.Choice.{picks}
+use Rattle.prelude.specs.Laws.Choice.{picks}
 use Rattle.book.specs.Settings.{settingsInRange}
 use Rattle.book.proofs.settings.settings_in_range.Statement.{statement}
 use Rattle.book.proofs.settings.settings_in_range.Tie as tie

@@ -2,7 +2,7 @@
 -- Assumes nothing.
 use native.Mathlib.Omega.{arith}
 use mathlib.Core.Path.{refl}
-use Rattle.prelude.specs.Choice.{picks, lt-no, by-yes, by-no}
+use Rattle.prelude.specs.Laws.Choice.{picks, lt-no, by-yes, by-no}
 use Rattle.book.specs.Settings.{settingsOk}
 use borrow.Author.Needs.{needs}
 use Rattle.book.proofs.settings.settings_ok.Statement.{statement}

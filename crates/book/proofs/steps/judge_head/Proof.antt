@@ -2,7 +2,7 @@
 -- Assumes nothing.
 use native.Mathlib.Omega.{arith}
 use mathlib.Core.Path.{refl}
-use Rattle.prelude.specs.Choice.{lt-yes, lt-no, eq-yes, eq-no}
+use Rattle.prelude.specs.Laws.Choice.{lt-yes, lt-no, eq-yes, eq-no}
 use Rattle.book.specs.Walk.{judgeHead}
 use borrow.Author.Needs.{needs}
 use Rattle.book.proofs.steps.judge_head.Statement.{statement}

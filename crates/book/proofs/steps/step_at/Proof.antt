@@ -6,10 +6,10 @@ use Prim.Native.Nat.{ℕ, _+_, _≤_}
 use mathlib.Core.List.{List}
 use lib.ListN.{length}
 use native.Mathlib.Nat.{add-sub-cancel-left}
-use Rattle.prelude.specs.Choice.{eq-yes, eq-no}
+use Rattle.prelude.specs.Laws.Choice.{eq-yes, eq-no}
 use Rattle.prelude.specs.Refusals.{refusalAt}
-use Rattle.book.specs.Walk.{typeAt, lengthAt, judgeHead, stepAt}
-use Rattle.book.specs.WalkLaws.{HeadFine, head-fine, head-short}
+use Rattle.book.specs.Walk.{typeAt, bodyLengthAt, judgeHead, stepAt}
+use Rattle.book.specs.Laws.Walk.{HeadFine, head-fine, head-short}
 use Rattle.book.specs.declared.types.StepAnswer.{StepAnswer}
 use borrow.Author.Needs.{needs}
 use Rattle.book.proofs.steps.step_at.Statement.{statement}
@@ -22,7 +22,7 @@ returns : tie.Need-returns
 unfolding stepAt
 returns c =
     let a = c .before .before .args in
-    let h = head-short (length (a .file .now)) (a .at) (typeAt (a .file .now) (a .at)) (lengthAt (a .file .now) (a .at)) (omega arith) in
+    let h = head-short (length (a .file .now)) (a .at) (typeAt (a .file .now) (a .at)) (bodyLengthAt (a .file .now) (a .at)) (omega arith) in
     eq-no _ _ _ (λ e. omega (arith, h)) (ap (λ (n : ℕ). StepAnswer.Stopped (refusalAt n (a .at))) (sym h))
 
 shared-slice-read-t : tie.Need-shared-slice-read-t
@@ -47,7 +47,7 @@ abbrev at : tie.After-judge-head → ℕ
 at c = c .before .before .before .before .before .args .at
 
 -- the head's number is that of the bytes at the place
-head : (c : tie.After-judge-head) → c .judge-head .result ≡ judgeHead (length (file c)) (at c) (typeAt (file c) (at c)) (lengthAt (file c) (at c))
+head : (c : tie.After-judge-head) → c .judge-head .result ≡ judgeHead (length (file c)) (at c) (typeAt (file c) (at c)) (bodyLengthAt (file c) (at c))
 head c = cc
 
 within : (c : tie.Else3) → at (c .before .before) + 3 + c .before .before .before .word-in .result ≤ length (file (c .before .before))

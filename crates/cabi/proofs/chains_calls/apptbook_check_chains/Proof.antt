@@ -2,7 +2,7 @@
 -- Assumes nothing.
 use mathlib.Core.Path.{_∙_, ap}
 use Rattle.marshal.specs.ChainAnswers.{chainsOut}
-use Rattle.marshal.specs.ChainAnswerLaws.{promised-out}
+use Rattle.marshal.specs.Laws.ChainAnswers.{promised-out}
 use borrow.Author.Needs.{needs}
 use Rattle.cabi.proofs.chains_calls.apptbook_check_chains.Statement.{statement}
 use Rattle.cabi.proofs.chains_calls.apptbook_check_chains.Tie as tie

@@ -3,14 +3,14 @@
 use Prim.Native.Nat.{_-_, _≤_}
 use mathlib.Core.Path.{sym}
 use native.Mathlib.Numerals.{add-one}
-use Rattle.calendar.specs.Lists.{walkFrom, placesIn}
-use Rattle.calendar.specs.EntryLaws.{Cursor, cursor-first, Ahead, cursor-ahead, cursor-done}
+use Rattle.calendar.specs.Lists.{listWalkFrom, placesInList}
+use Rattle.calendar.specs.Laws.Entries.{ListCursor, cursor-first, ListAhead, cursor-ahead, cursor-done}
 use native.Mathlib.Omega.{arith}
 use Rattle.calendar.proofs.entries.count_list.Statement.{statement}
 use Rattle.calendar.proofs.entries.count_list.Tie as tie
 
 abbrev Inv-loop : tie.InvT-loop
-Inv-loop file from end n₀ at₀ n at = Cursor file end (placesIn (walkFrom file end 0 from)) n at × (n ≤ at)
+Inv-loop file from end n₀ at₀ n at = ListCursor file end (placesInList (listWalkFrom file end 0 from)) n at × (n ≤ at)
 
 abbrev μ-loop : tie.MeasureT-loop
 μ-loop file from end n₀ at₀ n at = end - at
@@ -18,7 +18,7 @@ abbrev μ-loop : tie.MeasureT-loop
 loop-holds : tie.Need-loop-holds Inv-loop μ-loop
 loop-holds c = (cursor-first (c .before .pre), omega arith)
 
-ahead : (c : tie.In-loop Inv-loop μ-loop) → Ahead (c .before .before .before .args .file .now) (c .before .before .before .args .end) (placesIn (walkFrom (c .before .before .before .args .file .now) (c .before .before .before .args .end) 0 (c .before .before .before .args .from))) (c .before .loop .n) (c .before .loop .at)
+ahead : (c : tie.In-loop Inv-loop μ-loop) → ListAhead (c .before .before .before .args .file .now) (c .before .before .before .args .end) (placesInList (listWalkFrom (c .before .before .before .args .file .now) (c .before .before .before .args .end) 0 (c .before .before .before .args .from))) (c .before .loop .n) (c .before .loop .at)
 ahead c = cursor-ahead (c .before .loop .inv .0) (omega arith)
 
 size-at-requires : tie.Need-size-at-requires Inv-loop μ-loop

@@ -1,6 +1,6 @@
 -- `entry_at` meets its contract: its fields are what its callees give.
 -- Assumes nothing.
-use Rattle.calendar.specs.Shown.{entryAt}
+use Rattle.calendar.specs.Shown.{shownAt}
 use borrow.Author.Needs.{needs}
 use Rattle.calendar.proofs.entries.entry_at.Statement.{statement}
 use Rattle.calendar.proofs.entries.entry_at.Tie as tie
@@ -30,7 +30,7 @@ sub-t10 : tie.Need-sub-t10
 sub-t10 c = search needs
 
 returns : tie.Need-returns
-unfolding entryAt
+unfolding shownAt
 returns c = rw (c .before .before .before .word-in .ensures, c .before .wide .ensures .0, c .size-at .ensures .0)
 
 pub entry-at-spec : {M : Type 1} → statement M

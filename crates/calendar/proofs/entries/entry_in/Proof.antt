@@ -4,17 +4,17 @@ use Prim.Native.Nat.{ℕ, _-_, _≤_}
 use mathlib.Core.Path.{_≡_, refl, sym, _∙_, ap}
 use native.Mathlib.Numerals.{add-one}
 use lib.ListN.{getD}
-use Rattle.prelude.specs.Choice.{lt-yes, lt-no}
-use Rattle.calendar.specs.Lists.{walkFrom, placesIn}
-use Rattle.calendar.specs.Shown.{entryAt, entryOf}
-use Rattle.calendar.specs.EntryLaws.{Cursor, cursor-first, Ahead, cursor-ahead, cursor-done}
+use Rattle.prelude.specs.Laws.Choice.{lt-yes, lt-no}
+use Rattle.calendar.specs.Lists.{listWalkFrom, placesInList}
+use Rattle.calendar.specs.Shown.{shownAt, entryOf}
+use Rattle.calendar.specs.Laws.Entries.{ListCursor, cursor-first, ListAhead, cursor-ahead, cursor-done}
 use Rattle.calendar.specs.declared.types.EntryAnswer.{EntryAnswer}
 use native.Mathlib.Omega.{arith}
 use Rattle.calendar.proofs.entries.entry_in.Statement.{statement}
 use Rattle.calendar.proofs.entries.entry_in.Tie as tie
 
 abbrev Inv-loop : tie.InvT-loop
-Inv-loop file from end k i₀ at₀ i at = Cursor file end (placesIn (walkFrom file end 0 from)) i at × (i ≤ k)
+Inv-loop file from end k i₀ at₀ i at = ListCursor file end (placesInList (listWalkFrom file end 0 from)) i at × (i ≤ k)
 
 abbrev μ-loop : tie.MeasureT-loop
 μ-loop file from end k i₀ at₀ i at = end - at
@@ -22,7 +22,7 @@ abbrev μ-loop : tie.MeasureT-loop
 loop-holds : tie.Need-loop-holds Inv-loop μ-loop
 loop-holds c = (cursor-first (c .before .pre), omega arith)
 
-ahead : (c : tie.In-loop Inv-loop μ-loop) → Ahead (c .before .before .before .args .file .now) (c .before .before .before .args .end) (placesIn (walkFrom (c .before .before .before .args .file .now) (c .before .before .before .args .end) 0 (c .before .before .before .args .from))) (c .before .loop .i) (c .before .loop .at)
+ahead : (c : tie.In-loop Inv-loop μ-loop) → ListAhead (c .before .before .before .args .file .now) (c .before .before .before .args .end) (placesInList (listWalkFrom (c .before .before .before .args .file .now) (c .before .before .before .args .end) 0 (c .before .before .before .args .from))) (c .before .loop .i) (c .before .loop .at)
 ahead c = cursor-ahead (c .before .loop .inv .0) (omega arith)
 
 entry-at-requires : tie.Need-entry-at-requires Inv-loop μ-loop
@@ -34,9 +34,9 @@ returns c =
     let a = ahead (c .before .before) in
     let i = c .before .before .before in
     let f = i .before .before .args .file .now in
-    let ps = placesIn (walkFrom f (i .before .before .args .end) 0 (i .before .before .args .from)) in
+    let ps = placesInList (listWalkFrom f (i .before .before .args .end) 0 (i .before .before .args .from)) in
     let e : getD ps (i .before .before .args .k) 0 ≡ i .loop .at = ap (λ (j : ℕ). getD ps j 0) (omega arith) ∙ a .place in
-    lt-yes _ _ _ (omega arith) (ap EntryAnswer.Entry (c .entry-at .ensures ∙ ap (entryAt f) (sym e)))
+    lt-yes _ _ _ (omega arith) (ap EntryAnswer.Entry (c .entry-at .ensures ∙ ap (shownAt f) (sym e)))
 
 size-at-requires : tie.Need-size-at-requires Inv-loop μ-loop
 size-at-requires c κs = omega arith

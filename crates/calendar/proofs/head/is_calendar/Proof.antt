@@ -1,16 +1,16 @@
 -- `is_calendar` meets its contract: 64 bytes are there, and the first eight are judged.
 -- Assumes nothing.
 use native.Mathlib.Omega.{arith}
-use Rattle.prelude.specs.Choice.{lt-yes, lt-no}
+use Rattle.prelude.specs.Laws.Choice.{lt-yes, lt-no}
 use mathlib.Core.Path.{refl}
-use Rattle.calendar.specs.Reader.{identified}
+use Rattle.calendar.specs.Reader.{calendarIdentified}
 use native.Mathlib.Omega.{arith}
 use borrow.Author.Needs.{needs}
 use Rattle.calendar.proofs.head.is_calendar.Statement.{statement}
 use Rattle.calendar.proofs.head.is_calendar.Tie as tie
 
 returns : tie.Need-returns
-unfolding identified
+unfolding calendarIdentified
 returns c = lt-yes _ _ _ (omega arith) refl
 
 shared-slice-read-same-bytes : tie.Need-shared-slice-read-same-bytes
@@ -41,7 +41,7 @@ same-bytes-requires : tie.Need-same-bytes-requires
 same-bytes-requires c κs = search needs
 
 returns-2 : tie.Need-returns-2
-unfolding identified
+unfolding calendarIdentified
 returns-2 c = lt-no _ _ _ (omega arith) (c .same-bytes .ensures)
 
 pub is-calendar-spec : {M : Type 1} → statement M

@@ -5,7 +5,7 @@ use mathlib.Core.Path.{_≡_, refl, sym, _∙_, ap}
 use mathlib.Core.List.{List}
 use Rattle.prelude.specs.Bytes.{word}
 use Rattle.calendar.specs.Reader.{tableFrom}
-use Rattle.calendar.specs.ReaderLaws.{table-none, table-over, table-falls, table-rises}
+use Rattle.calendar.specs.Laws.Reader.{table-none, table-over, table-falls, table-rises}
 use native.Mathlib.Omega.{arith}
 use Rattle.calendar.proofs.head.judge_table.Statement.{statement}
 use Rattle.calendar.proofs.head.judge_table.Tie as tie

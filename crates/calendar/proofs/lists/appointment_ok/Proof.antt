@@ -1,7 +1,7 @@
 -- `appointment_ok` meets its contract: each return is the choice that its tests make.
 -- Assumes nothing.
 use mathlib.Core.Path.{refl}
-use Rattle.prelude.specs.Choice.{lt-yes, lt-no}
+use Rattle.prelude.specs.Laws.Choice.{lt-yes, lt-no}
 use Rattle.calendar.specs.Lists.{appointmentOk}
 use native.Mathlib.Omega.{arith}
 use borrow.Author.Needs.{needs}

@@ -4,14 +4,14 @@ use Prim.Native.Nat.{ℕ, _+_, _-_}
 use mathlib.Core.Path.{_≡_, refl, sym, _∙_, ap}
 use mathlib.Core.List.{List}
 use mathlib.Core.Bool.{true}
-use Rattle.calendar.specs.Lists.{minuteAt, nextAt, appointmentOk, walkFrom, verdictIn}
-use Rattle.calendar.specs.ListLaws.{AppointmentAt, ok-facts, walk-end, walk-more, walk-stop, verdict-end, verdict-more, verdict-stop}
+use Rattle.calendar.specs.Lists.{minuteAt, nextAt, appointmentOk, listWalkFrom, verdictIn}
+use Rattle.calendar.specs.Laws.Lists.{AppointmentAt, ok-facts, walk-end, walk-more, walk-stop, verdict-end, verdict-more, verdict-stop}
 use native.Mathlib.Omega.{arith}
 use Rattle.calendar.proofs.lists.judge_list.Statement.{statement}
 use Rattle.calendar.proofs.lists.judge_list.Tie as tie
 
 abbrev Inv-loop : tie.InvT-loop
-Inv-loop file from end low₀ at₀ low at = verdictIn (walkFrom file end 0 from) ≡ verdictIn (walkFrom file end low at)
+Inv-loop file from end low₀ at₀ low at = verdictIn (listWalkFrom file end 0 from) ≡ verdictIn (listWalkFrom file end low at)
 
 abbrev μ-loop : tie.MeasureT-loop
 μ-loop file from end low₀ at₀ low at = end - at

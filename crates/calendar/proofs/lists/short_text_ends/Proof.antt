@@ -2,10 +2,10 @@
 -- Assumes nothing.
 use Prim.Native.Nat.{ℕ, suc, _+_, _-_, _≤_}
 use mathlib.Core.Path.{_≡_, refl, _∙_, ap}
-use Rattle.prelude.specs.Choice.{eq-yes, eq-no}
+use Rattle.prelude.specs.Laws.Choice.{eq-yes, eq-no}
 use Rattle.prelude.specs.Bytes.{byte}
 use Rattle.calendar.specs.Lists.{firstZero}
-use Rattle.calendar.specs.ListLaws.{zero-none, zero-met, zero-later}
+use Rattle.calendar.specs.Laws.Lists.{zero-none, zero-met, zero-later}
 use native.Mathlib.Omega.{arith}
 use Rattle.calendar.proofs.lists.short_text_ends.Statement.{statement}
 use Rattle.calendar.proofs.lists.short_text_ends.Tie as tie

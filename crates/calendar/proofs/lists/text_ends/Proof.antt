@@ -2,10 +2,10 @@
 -- Assumes nothing.
 use Prim.Native.Nat.{ℕ, suc, _+_, _-_}
 use mathlib.Core.Path.{_≡_, refl, sym, _∙_, ap}
-use Rattle.prelude.specs.Choice.{eq-yes, eq-no}
+use Rattle.prelude.specs.Laws.Choice.{eq-yes, eq-no}
 use Rattle.prelude.specs.Bytes.{byte}
 use Rattle.calendar.specs.Lists.{firstZero}
-use Rattle.calendar.specs.ListLaws.{ZeroIn, zero-in, zero-more}
+use Rattle.calendar.specs.Laws.Lists.{ZeroIn, zero-in, zero-more}
 use native.Mathlib.Omega.{arith}
 use native.Mathlib.Omega.{arith}
 use borrow.Author.Needs.{needs}

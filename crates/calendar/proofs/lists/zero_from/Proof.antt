@@ -3,7 +3,7 @@
 use Prim.Native.Nat.{suc, _+_, _-_, _<_, _≤_}
 use mathlib.Core.Path.{_≡_, refl, sym, _∙_}
 use Rattle.calendar.specs.Lists.{firstZero}
-use Rattle.calendar.specs.ListLaws.{zero-later, before-last, zero-met}
+use Rattle.calendar.specs.Laws.Lists.{zero-later, before-last, zero-met}
 use native.Mathlib.Omega.{arith}
 use Rattle.calendar.proofs.lists.zero_from.Statement.{statement}
 use Rattle.calendar.proofs.lists.zero_from.Tie as tie

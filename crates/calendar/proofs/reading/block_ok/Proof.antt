@@ -1,7 +1,7 @@
 -- `block_ok` meets its contract: each return is the choice that its tests make.
 -- Assumes nothing.
 use mathlib.Core.Path.{refl}
-use Rattle.prelude.specs.Choice.{lt-yes, lt-no, eq-yes, eq-no}
+use Rattle.prelude.specs.Laws.Choice.{lt-yes, lt-no, eq-yes, eq-no}
 use Rattle.calendar.specs.Reader.{blockOk}
 use native.Mathlib.Omega.{arith}
 use borrow.Author.Needs.{needs}

@@ -1,7 +1,7 @@
 -- `judge_all` meets its contract: each arm is a clause of its definition.
 -- Assumes nothing.
 use mathlib.Core.Path.{sym, _∙_}
-use Rattle.prelude.specs.Verdicts.{then-fine, then-refused}
+use Rattle.prelude.specs.Laws.Verdicts.{then-fine, then-refused}
 use borrow.Author.Needs.{needs}
 use Rattle.calendar.proofs.reading.judge_all.Statement.{statement}
 use Rattle.calendar.proofs.reading.judge_all.Tie as tie

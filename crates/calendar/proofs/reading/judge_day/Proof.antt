@@ -3,7 +3,8 @@
 use mathlib.Core.Path.{_≡_, sym, _∙_}
 use mathlib.Core.Bool.{true}
 use Rattle.calendar.specs.Reader.{blockOk}
-use Rattle.calendar.specs.ReaderLaws.{BlockAt, block-facts, day-block, day-list}
+use Rattle.calendar.specs.Invariants.{BlockAt}
+use Rattle.calendar.specs.Laws.Reader.{block-facts, day-block, day-list}
 use native.Mathlib.Omega.{arith}
 use borrow.Author.Needs.{needs}
 use Rattle.calendar.proofs.reading.judge_day.Statement.{statement}

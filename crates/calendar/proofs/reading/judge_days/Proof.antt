@@ -5,7 +5,7 @@ use mathlib.Core.Path.{_≡_, sym, _∙_, ap}
 use mathlib.Core.List.{List}
 use borrow.Author.Needs.{needs}
 use Rattle.calendar.specs.Reader.{daysFrom}
-use Rattle.calendar.specs.ReaderLaws.{days-none, days-next, days-stop}
+use Rattle.calendar.specs.Laws.Reader.{days-none, days-next, days-stop}
 use native.Mathlib.Omega.{arith}
 use Rattle.calendar.proofs.reading.judge_days.Statement.{statement}
 use Rattle.calendar.proofs.reading.judge_days.Tie as tie

@@ -2,10 +2,10 @@
 -- Assumes nothing.
 use Prim.Native.Nat.{ℕ}
 use mathlib.Core.Path.{refl, sym, _∙_, ap}
-use Rattle.prelude.specs.Choice.{lt-yes, lt-no, by-yes, by-no}
+use Rattle.prelude.specs.Laws.Choice.{lt-yes, lt-no, by-yes, by-no}
 use Rattle.prelude.specs.Verdicts.{andThen}
-use Rattle.calendar.specs.Reader.{tableFrom, daysFrom, answered, calendarOf}
-use Rattle.calendar.specs.ReaderLaws.{head-long}
+use Rattle.calendar.specs.Reader.{tableFrom, daysFrom, calendarAnswered, calendarOf}
+use Rattle.calendar.specs.Laws.Reader.{head-long}
 use native.Mathlib.Omega.{arith}
 use borrow.Author.Needs.{needs}
 use Rattle.calendar.proofs.reading.read_calendar.Statement.{statement}
@@ -45,7 +45,7 @@ returns-3 c =
     lt-no _ _ _ (omega arith)
     (by-yes _ _ _ (n .before .before .is-calendar .ensures) (n .before .if2 .taken)
     (lt-no _ _ _ (omega arith)
-    (c .answered-with .ensures ∙ ap (answered _) (c .before .judge-all .ensures) ∙ ap (λ (k : ℕ). answered k (andThen (tableFrom k f 64 0) (daysFrom k f 64))) (n .count-of .ensures .0))))
+    (c .answered-with .ensures ∙ ap (calendarAnswered _) (c .before .judge-all .ensures) ∙ ap (λ (k : ℕ). calendarAnswered k (andThen (tableFrom k f 64 0) (daysFrom k f 64))) (n .count-of .ensures .0))))
 
 returns-4 : tie.Need-returns-4
 unfolding calendarOf

@@ -4,7 +4,7 @@ use Prim.Native.Nat.{ℕ}
 use mathlib.Core.Path.{refl, sym, _∙_, ap}
 use mathlib.Core.List.{List}
 use lib.ListN.{length}
-use Rattle.prelude.specs.Choice.{lt-yes, lt-no}
+use Rattle.prelude.specs.Laws.Choice.{lt-yes, lt-no}
 use native.Mathlib.Omega.{arith}
 use Rattle.calendar.specs.Shown.{countFrom}
 use Rattle.calendar.specs.declared.types.CountAnswer.{CountAnswer}

@@ -2,7 +2,7 @@
 -- Assumes nothing.
 use mathlib.Core.Path.{sym, ap, _∙_}
 use Rattle.calendar.specs.Shown.{descriptorFrom, descriptorAnswer}
-use Rattle.calendar.specs.ReaderLaws.{calendar-facts}
+use Rattle.calendar.specs.Laws.Reader.{calendar-facts}
 use borrow.Author.Needs.{needs}
 use Rattle.calendar.proofs.shown.descriptor_at.Statement.{statement}
 use Rattle.calendar.proofs.shown.descriptor_at.Tie as tie

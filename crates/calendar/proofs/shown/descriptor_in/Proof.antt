@@ -1,7 +1,7 @@
 -- `descriptor_in` meets its contract: below the count the descriptor at its place, else no such number.
 -- Assumes nothing.
 use mathlib.Core.Path.{refl}
-use Rattle.prelude.specs.Choice.{lt-yes, lt-no}
+use Rattle.prelude.specs.Laws.Choice.{lt-yes, lt-no}
 use native.Mathlib.Omega.{arith}
 use Rattle.calendar.specs.Shown.{descriptorAt, descriptorFrom}
 use native.Mathlib.Omega.{arith}

@@ -1,7 +1,7 @@
 -- `entry_on` meets its contract: 11, or the day's list is walked.
 -- Assumes nothing.
 use mathlib.Core.Path.{refl, sym, _∙_, ap}
-use Rattle.prelude.specs.Choice.{lt-yes, lt-no}
+use Rattle.prelude.specs.Laws.Choice.{lt-yes, lt-no}
 use native.Mathlib.Omega.{arith}
 use Rattle.calendar.specs.Shown.{entryOf, entryFrom}
 use native.Mathlib.Omega.{arith}

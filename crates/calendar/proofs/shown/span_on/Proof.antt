@@ -5,9 +5,9 @@ use mathlib.Core.Path.{_≡_, sym, _∙_, ap}
 use mathlib.Core.List.{List}
 use Rattle.prelude.specs.declared.refusals.Verdict.{Verdict}
 use Rattle.calendar.specs.Reader.{dayVerdict, daysFrom}
-use Rattle.calendar.specs.ReaderLaws.{day-fine, days-fine}
+use Rattle.calendar.specs.Laws.Reader.{day-fine, days-fine}
 use Rattle.calendar.specs.Shown.{placesFrom, placesOn}
-use Rattle.calendar.specs.EntryLaws.{places-none, places-here, places-on, list-here, list-none}
+use Rattle.calendar.specs.Laws.Entries.{places-none, places-here, places-on, list-here, list-none}
 use native.Mathlib.Omega.{arith}
 use Rattle.calendar.proofs.shown.span_on.Statement.{statement}
 use Rattle.calendar.proofs.shown.span_on.Tie as tie

@@ -3,9 +3,9 @@
 use mathlib.Core.Path.{sym, _∙_}
 use native.Mathlib.Omega.{arith}
 use borrow.Author.Needs.{needs}
-use Rattle.chains.specs.StageLaws.{answer-days, answer-refused}
-use Rattle.chains.specs.LinkedLaws.{fine-passed}
-use Rattle.chains.specs.Theorem.{promised}
+use Rattle.chains.specs.Laws.Stages.{answer-days, answer-refused}
+use Rattle.chains.specs.Laws.Linked.{fine-passed}
+use Rattle.chains.specs.Laws.Theorem.{chains-promised}
 use Rattle.chains.proofs.checking.check_chains.Statement.{statement}
 use Rattle.chains.proofs.checking.check_chains.Tie as tie
 
@@ -25,10 +25,10 @@ enum-known-v : tie.Need-enum-known-v
 enum-known-v c = search needs
 
 returns : tie.Need-returns
-returns c = promised _ _ _ _ _ (answer-days _ _ _ _ _ (c .before .before .judge .ensures) (c .before .before .before .entry-count .ensures) (c .enum-told .given .1))
+returns c = chains-promised _ _ _ _ _ (answer-days _ _ _ _ _ (c .before .before .judge .ensures) (c .before .before .before .entry-count .ensures) (c .enum-told .given .1))
 
 returns-2 : tie.Need-returns-2
-returns-2 c = promised _ _ _ _ _ (answer-refused _ _ _ _ _ (c .before .before .before .judge .ensures) (c .before .v .given .1))
+returns-2 c = chains-promised _ _ _ _ _ (answer-refused _ _ _ _ _ (c .before .before .before .judge .ensures) (c .before .v .given .1))
 
 pub check-chains-spec : {M : Type 1} → statement M
 check-chains-spec =

@@ -3,9 +3,9 @@
 use mathlib.Core.Path.{refl}
 use native.Mathlib.Omega.{arith}
 use borrow.Author.Needs.{needs}
-use Rattle.prelude.specs.Choice.{eq-yes, eq-no, by-yes, by-no}
+use Rattle.prelude.specs.Laws.Choice.{eq-yes, eq-no, by-yes, by-no}
 use Rattle.chains.specs.Chains.{chainsVerdict}
-use Rattle.chains.specs.LinkedLaws.{sizes-in}
+use Rattle.chains.specs.Laws.Linked.{sizes-in}
 use Rattle.chains.proofs.checking.judge.Statement.{statement}
 use Rattle.chains.proofs.checking.judge.Tie as tie
 

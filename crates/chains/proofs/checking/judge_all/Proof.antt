@@ -5,11 +5,11 @@ use mathlib.Core.Path.{_≡_}
 use native.Mathlib.Omega.{arith}
 use borrow.Author.Needs.{needs}
 use Rattle.chains.specs.Chains.{entries}
-use Rattle.chains.specs.MarkLaws.{heads-in}
-use Rattle.chains.specs.LinkedLaws.{judged-linked}
+use Rattle.chains.specs.Laws.Marks.{heads-in}
+use Rattle.chains.specs.Laws.Linked.{judged-linked}
 use Rattle.chains.specs.Stages.{ChainsEnd}
-use Rattle.chains.specs.Theorem.{chains-end}
-use Rattle.chains.specs.StageLaws.{stop-entries, stop-heads, stop-links, all-judged}
+use Rattle.chains.specs.Laws.Theorem.{chains-end}
+use Rattle.chains.specs.Laws.Stages.{stop-entries, stop-heads, stop-links, all-judged}
 use Rattle.chains.proofs.checking.judge_all.Statement.{statement}
 use Rattle.chains.proofs.checking.judge_all.Tie as tie
 

@@ -4,11 +4,12 @@ use Prim.Native.Nat.{_-_, _≤_}
 use mathlib.Core.Path.{_≡_, refl, sym, _∙_}
 use native.Mathlib.Omega.{arith}
 use lib.ListN.{length, length-set}
-use Rattle.prelude.specs.Verdicts.{inTurn, bad-refused, good-fine, turn-start, turn-fine, turn-refused, turn-none}
+use Rattle.prelude.specs.Verdicts.{inTurn}
+use Rattle.prelude.specs.Laws.Verdicts.{bad-refused, good-fine, turn-start, turn-fine, turn-refused, turn-none}
 use Rattle.chains.specs.Chains.{headBad, headVerdict}
 use Rattle.chains.specs.Marks.{marks}
-use Rattle.chains.specs.MarkLaws.{marks-none, marks-next, marked-bad}
-use Rattle.chains.specs.LinkedLaws.{head-in}
+use Rattle.chains.specs.Laws.Marks.{marks-none, marks-next, marked-bad}
+use Rattle.chains.specs.Laws.Linked.{head-in}
 use Rattle.chains.proofs.heads.mark_heads.Statement.{statement}
 use Rattle.chains.proofs.heads.mark_heads.Tie as tie
 

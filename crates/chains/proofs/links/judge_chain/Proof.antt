@@ -5,7 +5,7 @@ use mathlib.Core.Path.{_≡_, refl, sym, _∙_}
 use native.Mathlib.Omega.{arith}
 use lib.ListN.{length}
 use Rattle.chains.specs.Chains.{fieldOf, walk, linked}
-use Rattle.chains.specs.WalkLaws.{links-bad, links-on, links-end, links-out, next-none, next-out, next-other, next-back}
+use Rattle.chains.specs.Laws.Walks.{links-bad, links-on, links-end, links-out, next-none, next-out, next-other, next-back}
 use Rattle.chains.proofs.links.judge_chain.Statement.{statement}
 use Rattle.chains.proofs.links.judge_chain.Tie as tie
 

@@ -4,7 +4,8 @@ use Prim.Native.Nat.{_-_, _≤_}
 use mathlib.Core.Path.{_≡_, sym, _∙_}
 use native.Mathlib.Omega.{arith}
 use borrow.Author.Needs.{needs}
-use Rattle.prelude.specs.Verdicts.{inTurn, turn-start, turn-fine, turn-refused, turn-none}
+use Rattle.prelude.specs.Verdicts.{inTurn}
+use Rattle.prelude.specs.Laws.Verdicts.{turn-start, turn-fine, turn-refused, turn-none}
 use Rattle.chains.specs.Chains.{linksVerdict}
 use Rattle.chains.proofs.links.judge_links.Statement.{statement}
 use Rattle.chains.proofs.links.judge_links.Tie as tie

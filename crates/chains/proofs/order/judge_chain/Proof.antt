@@ -4,12 +4,12 @@ use Prim.Native.Nat.{_<_}
 use mathlib.Core.Path.{_≡_, sym, ap, _∙_}
 use native.Mathlib.Omega.{arith}
 use lib.ListN.{length}
-use Rattle.prelude.specs.Choice.{is-lt}
+use Rattle.prelude.specs.Laws.Choice.{is-lt}
 use Rattle.chains.specs.Chains.{walk, ordered}
 use Rattle.chains.specs.Ranks.{ranked}
-use Rattle.chains.specs.RankLaws.{ordered-ranked, ranks-bad, ranks-on, ranks-none}
+use Rattle.chains.specs.Laws.Ranks.{ordered-ranked, ranks-bad, ranks-on, ranks-none}
 use Rattle.chains.specs.Stages.{EndsIn, ahead}
-use Rattle.chains.specs.StepLaws.{ahead-less, ends-next}
+use Rattle.chains.specs.Laws.Steps.{ahead-less, ends-next}
 use Rattle.chains.proofs.order.judge_chain.Statement.{statement}
 use Rattle.chains.proofs.order.judge_chain.Tie as tie
 

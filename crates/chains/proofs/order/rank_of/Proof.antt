@@ -3,7 +3,7 @@
 use mathlib.Core.Path.{refl}
 use native.Mathlib.Omega.{arith}
 use borrow.Author.Needs.{needs}
-use Rattle.prelude.specs.Choice.{lt-yes, lt-no, eq-yes, eq-no}
+use Rattle.prelude.specs.Laws.Choice.{lt-yes, lt-no, eq-yes, eq-no}
 use Rattle.chains.specs.Ranks.{rank}
 use Rattle.chains.proofs.order.rank_of.Statement.{statement}
 use Rattle.chains.proofs.order.rank_of.Tie as tie

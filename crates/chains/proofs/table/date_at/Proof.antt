@@ -1,7 +1,7 @@
 -- `date_at` meets its contract: the number by computing; what a slice of bytes holds is below 256.
 -- Assumes nothing.
 use native.Mathlib.Omega.{arith}
-use Rattle.prelude.specs.Bytes.{at-bytes}
+use Rattle.prelude.specs.Laws.Bytes.{at-bytes}
 use borrow.Author.Needs.{needs}
 use Rattle.chains.proofs.table.date_at.Statement.{statement}
 use Rattle.chains.proofs.table.date_at.Tie as tie

@@ -3,10 +3,11 @@
 use Prim.Native.Nat.{_-_, _≤_}
 use mathlib.Core.Path.{_≡_, refl, sym, ap, _∙_}
 use native.Mathlib.Omega.{arith}
-use Rattle.prelude.specs.Verdicts.{inTurn, bad-refused, good-fine, turn-start, turn-fine, turn-refused, turn-none}
+use Rattle.prelude.specs.Verdicts.{inTurn}
+use Rattle.prelude.specs.Laws.Verdicts.{bad-refused, good-fine, turn-start, turn-fine, turn-refused, turn-none}
 use Rattle.chains.specs.Chains.{entryBad, entryVerdict}
 use Rattle.chains.specs.Dates.{leastDate}
-use Rattle.chains.specs.DateLaws.{day-judged, next-least}
+use Rattle.chains.specs.Laws.Dates.{day-judged, next-least}
 use Rattle.chains.proofs.table.judge_entries.Statement.{statement}
 use Rattle.chains.proofs.table.judge_entries.Tie as tie
 

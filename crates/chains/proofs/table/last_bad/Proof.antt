@@ -2,7 +2,7 @@
 -- Assumes nothing.
 use mathlib.Core.Path.{refl}
 use native.Mathlib.Omega.{arith}
-use Rattle.prelude.specs.Choice.{lt-yes, lt-no, eq-yes, eq-no}
+use Rattle.prelude.specs.Laws.Choice.{lt-yes, lt-no, eq-yes, eq-no}
 use Rattle.chains.specs.Chains.{entryBad}
 use borrow.Author.Needs.{needs}
 use Rattle.chains.proofs.table.last_bad.Statement.{statement}

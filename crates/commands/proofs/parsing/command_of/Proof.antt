@@ -1,7 +1,7 @@
 -- `command_of` meets its contract: the number of words decides.
 -- Assumes nothing.
 use Rattle.commands.specs.Commands.{commandOf}
-use Rattle.prelude.specs.Choice.{picks}
+use Rattle.prelude.specs.Laws.Choice.{picks}
 use borrow.Author.Needs.{needs}
 use Rattle.commands.proofs.parsing.command_of.Statement.{statement}
 use Rattle.commands.proofs.parsing.command_of.Tie as tie

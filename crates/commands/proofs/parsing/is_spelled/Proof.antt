@@ -1,7 +1,7 @@
 -- `is_spelled` meets its contract: each return is the choice that its tests make.
 -- Assumes nothing.
 use Rattle.commands.specs.Words.{spelled}
-use Rattle.prelude.specs.Choice.{picks}
+use Rattle.prelude.specs.Laws.Choice.{picks}
 use borrow.Author.Needs.{needs}
 use Rattle.commands.proofs.parsing.is_spelled.Statement.{statement}
 use Rattle.commands.proofs.parsing.is_spelled.Tie as tie

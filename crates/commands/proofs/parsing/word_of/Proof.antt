@@ -1,7 +1,7 @@
 -- `word_of` meets its contract: each return is the choice that its tests make.
 -- Assumes nothing.
 use mathlib.Core.Path.{ap}
-use Rattle.prelude.specs.Choice.{picks, by-yes}
+use Rattle.prelude.specs.Laws.Choice.{picks, by-yes}
 use Rattle.commands.specs.Words.{wordOf}
 use Rattle.commands.specs.declared.types.Word.{Word}
 use borrow.Author.Needs.{needs}

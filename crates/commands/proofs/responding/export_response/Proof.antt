@@ -3,8 +3,8 @@
 use mathlib.Core.Path.{sym, _∙_}
 use native.Mathlib.Omega.{arith}
 use lib.ListN.{length}
-use Rattle.export.specs.AnswerLaws.{first-beyond, count-beyond}
-use Rattle.commands.specs.ResponseLaws.{export-beyond, export-written, export-refused}
+use Rattle.export.specs.Laws.Answers.{first-beyond, count-beyond}
+use Rattle.commands.specs.Laws.Responses.{export-beyond, export-written, export-refused}
 use borrow.Author.Needs.{needs}
 use Rattle.commands.proofs.responding.export_response.Statement.{statement}
 use Rattle.commands.proofs.responding.export_response.Tie as tie

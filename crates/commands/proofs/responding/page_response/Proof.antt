@@ -1,7 +1,7 @@
 -- `page_response` meets its contract: a number past the last day, or what the printed page says.
 -- Assumes nothing.
 use mathlib.Core.Path.{sym, _∙_}
-use Rattle.commands.specs.ResponseLaws.{page-beyond, print-count, print-refused}
+use Rattle.commands.specs.Laws.Responses.{page-beyond, print-count, print-refused}
 use native.Mathlib.Omega.{arith}
 use borrow.Author.Needs.{needs}
 use Rattle.commands.proofs.responding.page_response.Statement.{statement}

@@ -5,11 +5,11 @@ use Prim.Native.Nat.{ℕ, _+_, _≤_}
 use mathlib.Core.List.{List, [], _∷_, _++_}
 use native.Mathlib.Omega.{arith}
 use lib.ListN.{length}
-use Rattle.prelude.specs.Grown.{Grown, start, space, space-last, grow, finish-last}
+use Rattle.prelude.specs.Laws.Grown.{Grown, grown-start, grown-space, space-last, grown-more, finish-last}
 use Rattle.digits.specs.Digits.{decimal}
 use Rattle.printing.specs.Printed.{newline, space as blank}
 use Rattle.commands.specs.Responses.{refusalText}
-use Rattle.commands.specs.ResponseLaws.{length-refusal}
+use Rattle.commands.specs.Laws.Responses.{length-refusal}
 use Rattle.commands.proofs.responding.put_refusal.Statement.{statement}
 use Rattle.commands.proofs.responding.put_refusal.Tie as tie
 
@@ -22,37 +22,37 @@ room s = let l = length-refusal (s .args .e) (omega arith) (omega arith) in omeg
 
 g0 : (s : tie.Start) → Left s (s .args .out .now) 0 (decimal (s .args .e .number) ++ (blank ∷ (decimal (s .args .e .place) ++ (newline ∷ []))))
 unfolding refusalText
-g0 s = start (room s)
+g0 s = grown-start (room s)
 
 abbrev s1 : tie.After-put-decimal → tie.Start
 s1 c = c .before .before .before .before
 
 g1 : (c : tie.After-put-decimal) → Left (s1 c) (c .put-decimal .last .0) (c .put-decimal .result) (blank ∷ (decimal (s1 c .args .e .place) ++ (newline ∷ [])))
-g1 c = grow _ (g0 (s1 c)) (c .put-decimal .ensures .0) (c .put-decimal .ensures .1)
+g1 c = grown-more _ (g0 (s1 c)) (c .put-decimal .ensures .0) (c .put-decimal .ensures .1)
 
 abbrev s2 : tie.After-put-byte → tie.Start
 s2 c = s1 (c .before .before .before .before)
 
 g2 : (c : tie.After-put-byte) → Left (s2 c) (c .put-byte .last .0) (c .put-byte .result) (decimal (s2 c .args .e .place) ++ (newline ∷ []))
-g2 c = grow (blank ∷ []) (g1 (c .before .before .before .before)) (c .put-byte .ensures .0) (c .put-byte .ensures .1)
+g2 c = grown-more (blank ∷ []) (g1 (c .before .before .before .before)) (c .put-byte .ensures .0) (c .put-byte .ensures .1)
 
 abbrev s3 : tie.After-put-decimal2 → tie.Start
 s3 c = s2 (c .before .before .before .before)
 
 g3 : (c : tie.After-put-decimal2) → Left (s3 c) (c .put-decimal2 .last .0) (c .put-decimal2 .result) (newline ∷ [])
-g3 c = grow _ (g2 (c .before .before .before .before)) (c .put-decimal2 .ensures .0) (c .put-decimal2 .ensures .1)
+g3 c = grown-more _ (g2 (c .before .before .before .before)) (c .put-decimal2 .ensures .0) (c .put-decimal2 .ensures .1)
 
 cast-put-decimal : tie.Need-cast-put-decimal
 cast-put-decimal c = search needs
 
 put-decimal-requires : tie.Need-put-decimal-requires
-put-decimal-requires c κs = space (decimal _) _ (g0 (c .before .before .before))
+put-decimal-requires c κs = grown-space (decimal _) _ (g0 (c .before .before .before))
 
 put-byte-requires : tie.Need-put-byte-requires
-put-byte-requires c κs = space (blank ∷ []) _ (g1 (c .before .before .before))
+put-byte-requires c κs = grown-space (blank ∷ []) _ (g1 (c .before .before .before))
 
 put-decimal-requires-2 : tie.Need-put-decimal-requires-2
-put-decimal-requires-2 c κs = space (decimal _) _ (g2 (c .before .before .before))
+put-decimal-requires-2 c κs = grown-space (decimal _) _ (g2 (c .before .before .before))
 
 put-byte-requires-2 : tie.Need-put-byte-requires-2
 put-byte-requires-2 c κs = space-last (g3 (c .before .before .before))

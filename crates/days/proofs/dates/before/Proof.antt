@@ -1,6 +1,6 @@
 -- `before` meets its contract: each return is the choice that its tests make.
 -- Assumes nothing.
-use Rattle.prelude.specs.Choice.{picks}
+use Rattle.prelude.specs.Laws.Choice.{picks}
 use Rattle.days.specs.Dates.{before}
 use Rattle.days.proofs.dates.before.Statement.{statement}
 use Rattle.days.proofs.dates.before.Tie as tie

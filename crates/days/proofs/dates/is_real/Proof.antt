@@ -1,6 +1,6 @@
 -- `is_real` meets its contract: each return is the choice that its tests make.
 -- Assumes nothing.
-use Rattle.prelude.specs.Choice.{picks}
+use Rattle.prelude.specs.Laws.Choice.{picks}
 use Rattle.days.specs.Dates.{real}
 use borrow.Author.Needs.{needs}
 use Rattle.days.proofs.dates.is_real.Statement.{statement}

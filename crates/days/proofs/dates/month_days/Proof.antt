@@ -1,6 +1,6 @@
 -- `month_days` meets its contract: each return is the choice that its tests make.
 -- Assumes nothing.
-use Rattle.prelude.specs.Choice.{picks}
+use Rattle.prelude.specs.Laws.Choice.{picks}
 use Rattle.days.specs.Dates.{monthLength}
 use borrow.Author.Needs.{needs}
 use Rattle.days.proofs.dates.month_days.Statement.{statement}

@@ -1,6 +1,6 @@
 -- `month_length` meets its contract: each return is the choice that its tests make.
 -- Assumes nothing.
-use Rattle.prelude.specs.Choice.{picks}
+use Rattle.prelude.specs.Laws.Choice.{picks}
 use Rattle.days.specs.Answers.{lengthAnswer}
 use borrow.Author.Needs.{needs}
 use Rattle.days.proofs.dates.month_length.Statement.{statement}

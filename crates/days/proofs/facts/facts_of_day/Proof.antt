@@ -1,7 +1,7 @@
 -- `facts_of_day` meets its contract: out of range the refusal, else the fields are what its callees give.
 -- Assumes nothing.
 use native.Mathlib.Omega.{arith}
-use Rattle.prelude.specs.Choice.{picks, lt-no}
+use Rattle.prelude.specs.Laws.Choice.{picks, lt-no}
 use Rattle.days.specs.Answers.{factsAnswer}
 use Rattle.days.specs.Facts.{factsOf}
 use borrow.Author.Needs.{needs}

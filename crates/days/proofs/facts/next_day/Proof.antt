@@ -1,6 +1,6 @@
 -- `next_day` meets its contract: each return is the choice that its tests make.
 -- Assumes nothing.
-use Rattle.prelude.specs.Choice.{picks}
+use Rattle.prelude.specs.Laws.Choice.{picks}
 use Rattle.days.specs.Answers.{nextAnswer}
 use borrow.Author.Needs.{needs}
 use Rattle.days.proofs.facts.next_day.Statement.{statement}

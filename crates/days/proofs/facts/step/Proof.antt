@@ -1,7 +1,7 @@
 -- `step` meets its contract: each return is the choice that its tests make.
 -- Assumes nothing.
 use native.Mathlib.Omega.{arith}
-use Rattle.prelude.specs.Choice.{picks, lt-yes}
+use Rattle.prelude.specs.Laws.Choice.{picks, lt-yes}
 use Rattle.days.specs.Facts.{stepped}
 use borrow.Author.Needs.{needs}
 use Rattle.days.proofs.facts.step.Statement.{statement}

@@ -4,7 +4,7 @@ use native.Mathlib.Omega.{arith}
 use mathlib.Core.Path.{sym}
 use borrow.Author.Needs.{needs}
 use Rattle.days.specs.Table.{InMonth}
-use Rattle.days.specs.TableLaws.{date-in-month}
+use Rattle.days.specs.Laws.Table.{date-in-month}
 use Rattle.days.proofs.numbers.date_of.Statement.{statement}
 use Rattle.days.proofs.numbers.date_of.Tie as tie
 

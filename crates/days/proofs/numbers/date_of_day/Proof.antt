@@ -1,6 +1,6 @@
 -- `date_of_day` meets its contract: each return is the choice that its tests make.
 -- Assumes nothing.
-use Rattle.prelude.specs.Choice.{picks}
+use Rattle.prelude.specs.Laws.Choice.{picks}
 use Rattle.days.specs.Answers.{dateAnswer}
 use borrow.Author.Needs.{needs}
 use Rattle.days.proofs.numbers.date_of_day.Statement.{statement}

@@ -2,7 +2,7 @@
 -- Assumes nothing.
 use native.Mathlib.Omega.{arith}
 use Rattle.days.specs.Days.{dayNumber}
-use Rattle.days.specs.DayLaws.{number-bound}
+use Rattle.days.specs.Laws.Days.{number-bound}
 use Rattle.days.proofs.MarchRule.{march-early, march-late}
 use borrow.Author.Needs.{needs}
 use Rattle.days.proofs.numbers.day_of.Statement.{statement}

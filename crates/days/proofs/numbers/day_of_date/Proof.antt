@@ -1,9 +1,9 @@
 -- `day_of_date` meets its contract: the day's number where `is_real` says yes, else refused.
 -- Assumes nothing.
-use Rattle.prelude.specs.Choice.{picks, by-yes}
+use Rattle.prelude.specs.Laws.Choice.{picks, by-yes}
 use mathlib.Core.Path.{sym, _∙_}
 use Rattle.days.specs.Answers.{dayAnswer}
-use Rattle.days.specs.DateLaws.{valid-facts}
+use Rattle.days.specs.Laws.Dates.{valid-facts}
 use borrow.Author.Needs.{needs}
 use Rattle.days.proofs.numbers.day_of_date.Statement.{statement}
 use Rattle.days.proofs.numbers.day_of_date.Tie as tie

@@ -1,7 +1,7 @@
 -- `weekday_of` meets its contract by the weekday's formula.
 -- Assumes nothing.
 use native.Mathlib.Omega.{arith}
-use Rattle.days.specs.DayLaws.{weekday-formula}
+use Rattle.days.specs.Laws.Days.{weekday-formula}
 use borrow.Author.Needs.{needs}
 use Rattle.days.proofs.numbers.weekday_of.Statement.{statement}
 use Rattle.days.proofs.numbers.weekday_of.Tie as tie

@@ -1,6 +1,6 @@
 -- `calendar_of_psion` meets its contract: each return is the choice that its tests make.
 -- Assumes nothing.
-use Rattle.prelude.specs.Choice.{picks}
+use Rattle.prelude.specs.Laws.Choice.{picks}
 use Rattle.days.specs.Answers.{calendarOfPsion}
 use Rattle.days.proofs.psion.calendar_of_psion.Statement.{statement}
 use Rattle.days.proofs.psion.calendar_of_psion.Tie as tie

@@ -1,6 +1,6 @@
 -- `psion_of_calendar` meets its contract: each return is the choice that its tests make.
 -- Assumes nothing.
-use Rattle.prelude.specs.Choice.{picks}
+use Rattle.prelude.specs.Laws.Choice.{picks}
 use Rattle.days.specs.Answers.{psionOfCalendar}
 use borrow.Author.Needs.{needs}
 use Rattle.days.proofs.psion.psion_of_calendar.Statement.{statement}

@@ -5,7 +5,7 @@ use native.Mathlib.Omega.{arith}
 use mathlib.Core.Path.{_≡_}
 use native.Mathlib.Nat.{add-zero}
 use Rattle.days.specs.Halving.{Narrowed}
-use Rattle.days.specs.HalvingLaws.{rest-lower, rest-upper, found-by-eleven}
+use Rattle.days.specs.Laws.Halving.{rest-lower, rest-upper, found-by-eleven}
 use Rattle.days.proofs.search.month_of.Statement.{statement}
 use Rattle.days.proofs.search.month_of.Tie as tie
 

@@ -5,7 +5,7 @@ use native.Mathlib.Omega.{arith}
 use mathlib.Core.Path.{_≡_, refl}
 use lib.ListN.{length, length-set}
 use Rattle.days.specs.Table.{StartsFrom}
-use Rattle.days.specs.TableLaws.{starts-set}
+use Rattle.days.specs.Laws.Table.{starts-set}
 use Rattle.days.proofs.search.rest_from.Statement.{statement}
 use Rattle.days.proofs.search.rest_from.Tie as tie
 

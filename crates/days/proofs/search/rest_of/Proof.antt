@@ -3,7 +3,7 @@
 use native.Mathlib.Omega.{arith}
 use borrow.Author.Needs.{needs}
 use Rattle.days.specs.Halving.{Narrowed}
-use Rattle.days.specs.HalvingLaws.{narrowed-by-none, table-lower, table-upper}
+use Rattle.days.specs.Laws.Halving.{narrowed-by-none, table-lower, table-upper}
 use Rattle.days.proofs.search.rest_of.Statement.{statement}
 use Rattle.days.proofs.search.rest_of.Tie as tie
 

@@ -4,7 +4,7 @@ use Prim.Native.Nat.{_+_}
 use native.Mathlib.Omega.{arith}
 use borrow.Author.Needs.{needs}
 use Rattle.days.specs.Halving.{Narrowed}
-use Rattle.days.specs.HalvingLaws.{table-lower, table-upper, narrowed-by-five}
+use Rattle.days.specs.Laws.Halving.{table-lower, table-upper, narrowed-by-five}
 use Rattle.days.proofs.search.rest_of_180.Statement.{statement}
 use Rattle.days.proofs.search.rest_of_180.Tie as tie
 

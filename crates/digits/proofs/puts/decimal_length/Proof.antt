@@ -2,7 +2,7 @@
 -- Assumes nothing.
 use native.Mathlib.Omega.{arith}
 use Prim.Native.Nat.{_+_, _-_}
-use Rattle.digits.specs.DecimalLaws.{Powers, powers-start, powers-next, powers-end}
+use Rattle.digits.specs.Laws.Decimal.{Powers, powers-start, powers-next, powers-end}
 use Rattle.digits.proofs.puts.decimal_length.Statement.{statement}
 use Rattle.digits.proofs.puts.decimal_length.Tie as tie
 

@@ -3,7 +3,7 @@
 use borrow.Author.Needs.{needs}
 use native.Mathlib.Omega.{arith}
 use mathlib.Core.Path.{refl}
-use Rattle.prelude.specs.Grown.{set-splice}
+use Rattle.prelude.specs.Laws.Grown.{set-splice}
 use Rattle.digits.proofs.puts.put_byte.Statement.{statement}
 use Rattle.digits.proofs.puts.put_byte.Tie as tie
 

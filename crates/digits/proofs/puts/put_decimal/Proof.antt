@@ -6,10 +6,10 @@ use Prim.Native.Nat.{_+_, _-_, _*_, _/_, _%_, _≤_}
 use mathlib.Core.Path.{_≡_}
 use mathlib.Core.List.{[]}
 use lib.ListN.{length-set}
-use Rattle.prelude.specs.Grown.{set-splice}
+use Rattle.prelude.specs.Laws.Grown.{set-splice}
 use Rattle.digits.specs.Digits.{decimal}
-use Rattle.digits.specs.DecimalLaws.{decimal-one, decimal-more, length-positive, length-one}
-use Rattle.digits.specs.Backed.{Backed, back-start, back-grow, back-finish}
+use Rattle.digits.specs.Laws.Decimal.{decimal-one, decimal-more, length-positive, length-one}
+use Rattle.digits.specs.Laws.Backed.{Backed, back-start, back-grow, back-finish}
 use Rattle.digits.proofs.puts.put_decimal.Statement.{statement}
 use Rattle.digits.proofs.puts.put_decimal.Tie as tie
 

@@ -3,7 +3,7 @@
 use borrow.Author.Needs.{needs}
 use Prim.Native.Nat.{_/_}
 use mathlib.Core.List.{_++_}
-use Rattle.prelude.specs.Grown.{Grown, start, space, space-last, grow, finish-last}
+use Rattle.prelude.specs.Laws.Grown.{Grown, grown-start, grown-space, space-last, grown-more, finish-last}
 use Rattle.digits.specs.Digits.{two, four}
 use Rattle.digits.proofs.puts.put_four.Statement.{statement}
 use Rattle.digits.proofs.puts.put_four.Tie as tie
@@ -11,13 +11,13 @@ use Rattle.digits.proofs.puts.put_four.Tie as tie
 -- before the first piece, and behind it
 g0 : (s : tie.Start) → Grown (s .args .out .now) (s .args .at) (four (s .args .n)) (s .args .out .now) (s .args .at) (two (s .args .n / 100) ++ two (s .args .n))
 unfolding four
-g0 s = start (s .pre)
+g0 s = grown-start (s .pre)
 
 g1 : (c : tie.After-put-two) → let a = c .before .before .before .args in Grown (a .out .now) (a .at) (four (a .n)) (c .put-two .last .0) (c .put-two .result) (two (a .n))
-g1 c = grow _ (g0 (c .before .before .before)) (c .put-two .ensures .0) (c .put-two .ensures .1)
+g1 c = grown-more _ (g0 (c .before .before .before)) (c .put-two .ensures .0) (c .put-two .ensures .1)
 
 put-two-requires : tie.Need-put-two-requires
-put-two-requires c κs = space (two _) _ (g0 (c .before .before))
+put-two-requires c κs = grown-space (two _) _ (g0 (c .before .before))
 
 put-two-requires-2 : tie.Need-put-two-requires-2
 put-two-requires-2 c κs = space-last (g1 (c .before .before .before))

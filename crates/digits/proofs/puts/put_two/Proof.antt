@@ -5,7 +5,7 @@ use native.Mathlib.Omega.{arith}
 use native.Mathlib.Numerals.{add-one}
 use mathlib.Core.Path.{refl}
 use lib.ListN.{length-set}
-use Rattle.prelude.specs.Grown.{sets-splice}
+use Rattle.prelude.specs.Laws.Grown.{sets-splice}
 use Rattle.digits.specs.Digits.{two}
 use Rattle.digits.proofs.puts.put_two.Statement.{statement}
 use Rattle.digits.proofs.puts.put_two.Tie as tie

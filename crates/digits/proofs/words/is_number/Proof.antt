@@ -5,7 +5,7 @@ use Prim.Native.Nat.{_≤_, _-_}
 use mathlib.Core.Path.{_≡_, sym, _∙_}
 use lib.ListN.{length, drop}
 use Rattle.digits.specs.Digits.{allDigits, isNumber}
-use Rattle.digits.specs.NumberLaws.{number-empty, number-other, digits-low, digits-high, digits-next, digits-end}
+use Rattle.digits.specs.Laws.Numbers.{number-empty, number-other, digits-low, digits-high, digits-next, digits-end}
 use Rattle.digits.proofs.words.is_number.Statement.{statement}
 use Rattle.digits.proofs.words.is_number.Tie as tie
 

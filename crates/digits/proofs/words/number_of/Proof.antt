@@ -6,7 +6,7 @@ use Prim.Native.Nat.{_+_, _*_, _<_, _≤_, _-_}
 use mathlib.Core.Path.{_≡_, sym, ap, _∙_}
 use lib.ListN.{length, drop}
 use Rattle.digits.specs.Digits.{valueFrom, value, capped}
-use Rattle.digits.specs.NumberLaws.{value-is, value-next, value-end, capped-below, capped-larger}
+use Rattle.digits.specs.Laws.Numbers.{value-is, value-next, value-end, capped-below, capped-larger}
 use Rattle.digits.proofs.words.number_of.Statement.{statement}
 use Rattle.digits.proofs.words.number_of.Tie as tie
 

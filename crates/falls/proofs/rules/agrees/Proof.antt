@@ -1,7 +1,7 @@
 -- `agrees` meets its contract: the type picks the byte.
 -- Assumes nothing.
 use Rattle.falls.specs.Agrees.{agrees}
-use Rattle.prelude.specs.Choice.{picks}
+use Rattle.prelude.specs.Laws.Choice.{picks}
 use borrow.Author.Needs.{needs}
 use Rattle.falls.proofs.rules.agrees.Statement.{statement}
 use Rattle.falls.proofs.rules.agrees.Tie as tie

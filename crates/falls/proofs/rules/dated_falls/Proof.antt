@@ -1,7 +1,7 @@
 -- `dated_falls` meets its contract: each return by the tests before it.
 -- Assumes nothing.
 use Rattle.falls.specs.Falls.{datedFalls}
-use Rattle.prelude.specs.Choice.{picks}
+use Rattle.prelude.specs.Laws.Choice.{picks}
 use Rattle.falls.proofs.rules.dated_falls.Statement.{statement}
 use Rattle.falls.proofs.rules.dated_falls.Tie as tie
 

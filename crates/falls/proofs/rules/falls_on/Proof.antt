@@ -2,8 +2,8 @@
 -- Assumes nothing.
 use mathlib.Core.Path.{_∙_, ap}
 use Rattle.falls.specs.Falls.{datedFalls, weeklyFalls, byDateFalls, byPositionFalls, yearlyFalls}
-use Rattle.falls.specs.FallsLaws.{falls-type}
-use Rattle.prelude.specs.Choice.{picks}
+use Rattle.falls.specs.Laws.Falls.{falls-type}
+use Rattle.prelude.specs.Laws.Choice.{picks}
 use borrow.Author.Needs.{needs}
 use Rattle.falls.proofs.rules.falls_on.Statement.{statement}
 use Rattle.falls.proofs.rules.falls_on.Tie as tie

@@ -1,7 +1,7 @@
 -- `falls_quickly` meets its contract: the whole rule, or none where the byte does not agree, by `agrees-no`.
 -- Assumes nothing.
 use mathlib.Core.Path.{sym, _∙_}
-use Rattle.falls.specs.Agrees.{agrees-no}
+use Rattle.falls.specs.Laws.Agrees.{agrees-no}
 use borrow.Author.Needs.{needs}
 use Rattle.falls.proofs.rules.falls_quickly.Statement.{statement}
 use Rattle.falls.proofs.rules.falls_quickly.Tie as tie

@@ -1,7 +1,7 @@
 -- `in_span` meets its contract: each return by the tests before it.
 -- Assumes nothing.
 use Rattle.falls.specs.Falls.{inSpan}
-use Rattle.prelude.specs.Choice.{picks}
+use Rattle.prelude.specs.Laws.Choice.{picks}
 use borrow.Author.Needs.{needs}
 use Rattle.falls.proofs.rules.in_span.Statement.{statement}
 use Rattle.falls.proofs.rules.in_span.Tie as tie

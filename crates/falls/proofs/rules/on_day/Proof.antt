@@ -1,7 +1,7 @@
 -- `on_day` meets its contract: each return by the test, and its callee.
 -- Assumes nothing.
 use Rattle.falls.specs.Falls.{onDay}
-use Rattle.prelude.specs.Choice.{picks}
+use Rattle.prelude.specs.Laws.Choice.{picks}
 use borrow.Author.Needs.{needs}
 use Rattle.falls.proofs.rules.on_day.Statement.{statement}
 use Rattle.falls.proofs.rules.on_day.Tie as tie

@@ -1,7 +1,7 @@
 -- `weekly_falls` meets its contract: each return by the tests before it.
 -- Assumes nothing.
 use Rattle.falls.specs.Falls.{weeklyFalls}
-use Rattle.prelude.specs.Choice.{picks}
+use Rattle.prelude.specs.Laws.Choice.{picks}
 use borrow.Author.Needs.{needs}
 use Rattle.falls.proofs.rules.weekly_falls.Statement.{statement}
 use Rattle.falls.proofs.rules.weekly_falls.Tie as tie

@@ -1,7 +1,7 @@
 -- `yearly_falls` meets its contract: each return by the tests before it.
 -- Assumes nothing.
 use Rattle.falls.specs.Falls.{yearlyFalls}
-use Rattle.prelude.specs.Choice.{picks}
+use Rattle.prelude.specs.Laws.Choice.{picks}
 use borrow.Author.Needs.{needs}
 use Rattle.falls.proofs.rules.yearly_falls.Statement.{statement}
 use Rattle.falls.proofs.rules.yearly_falls.Tie as tie

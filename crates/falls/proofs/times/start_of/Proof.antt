@@ -1,7 +1,7 @@
 -- `start_of` meets its contract: the type picks the place, by `start-type`.
 -- Assumes nothing.
-use Rattle.falls.specs.FallsLaws.{start-type}
-use Rattle.prelude.specs.Choice.{picks}
+use Rattle.falls.specs.Laws.Falls.{start-type}
+use Rattle.prelude.specs.Laws.Choice.{picks}
 use borrow.Author.Needs.{needs}
 use Rattle.falls.proofs.times.start_of.Statement.{statement}
 use Rattle.falls.proofs.times.start_of.Tie as tie

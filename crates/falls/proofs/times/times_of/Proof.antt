@@ -6,8 +6,8 @@ use Rattle.records.specs.declared.types.MonthlyByDate.{MonthlyByDate}
 use Rattle.records.specs.declared.types.MonthlyByPosition.{MonthlyByPosition}
 use Rattle.records.specs.declared.types.Yearly.{Yearly}
 use Rattle.falls.specs.Times.{datedTimes, repeatTimes}
-use Rattle.falls.specs.FallsLaws.{times-type}
-use Rattle.prelude.specs.Choice.{picks}
+use Rattle.falls.specs.Laws.Falls.{times-type}
+use Rattle.prelude.specs.Laws.Choice.{picks}
 use borrow.Author.Needs.{needs}
 use Rattle.falls.proofs.times.times_of.Statement.{statement}
 use Rattle.falls.proofs.times.times_of.Tie as tie

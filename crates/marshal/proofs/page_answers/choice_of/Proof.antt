@@ -1,7 +1,7 @@
 -- `choice_of` meets its contract: by its test.
 -- Assumes nothing.
 use Rattle.marshal.specs.PageAnswers.{choiceOf}
-use Rattle.prelude.specs.Choice.{picks}
+use Rattle.prelude.specs.Laws.Choice.{picks}
 use Rattle.marshal.proofs.page_answers.choice_of.Statement.{statement}
 use Rattle.marshal.proofs.page_answers.choice_of.Tie as tie
 

@@ -1,6 +1,6 @@
 -- `check_off_in` meets its contract: each return is the choice that its test makes.
 -- Assumes nothing.
-use Rattle.prelude.specs.Choice.{picks}
+use Rattle.prelude.specs.Laws.Choice.{picks}
 use Rattle.marshal.specs.RecordArguments.{checkOffIn}
 use Rattle.marshal.proofs.record_arguments.check_off_in.Statement.{statement}
 use Rattle.marshal.proofs.record_arguments.check_off_in.Tie as tie

@@ -7,12 +7,13 @@ use mathlib.Core.List.{List, _∷_, _++_, map}
 use native.Mathlib.Omega.{arith}
 use native.Mathlib.Numerals.{add-one}
 use lib.ListN.{length, take, length-set}
-use Rattle.prelude.specs.Keep.{keep}
-use Rattle.book.specs.BookLaws.{Cursor, cursor-first, cursor-ahead}
+use Rattle.sorting.specs.Keep.{keep}
+use Rattle.book.specs.Laws.Books.{Cursor, cursor-first, cursor-ahead}
 use Rattle.pages.specs.Pages.{Numbered, numbered, fallsOn}
 use Rattle.pages.specs.Codes.{codeWith, code}
-use Rattle.pages.specs.CodeLaws.{code-at, push, none-left}
-use Rattle.pages.specs.PageLaws.{numberedAt, numbered-first, recordAt, Turn, turn, turn-yes, turn-no, turn-end}
+use Rattle.pages.specs.Laws.Codes.{code-at, codes-push, none-left}
+use Rattle.pages.specs.Laws.Pages.{numberedAt, numbered-first, Turn, record-turn, turn-yes, turn-no, turn-end}
+use Rattle.pages.specs.Invariants.{recordAt}
 use Rattle.pages.proofs.collecting.collect.Statement.{statement}
 use Rattle.pages.proofs.collecting.collect.Tie as tie
 
@@ -31,7 +32,7 @@ abbrev falling : tie.After-f Inv-loop μ-loop → Numbered → Bool
 falling c = fallsOn (c .before .before .before .args .c) (c .before .before .before .args .a .facts)
 
 turned : (c : tie.After-next-place Inv-loop μ-loop) → Turn (file (c .before .before .before .before)) (c .before .before .before .loop .n) (c .before .before .before .loop .at)
-turned c = turn _ _ _ (c .before .before .before .loop .inv .0) (omega arith)
+turned c = record-turn _ _ _ (c .before .before .before .loop .inv .0) (omega arith)
 
 loop-holds : tie.Need-loop-holds Inv-loop μ-loop
 loop-holds c = (
@@ -78,7 +79,7 @@ loop-again c =
     let v : c .code-of .result ≡ code (recordAt (file (l .before)) (l .loop .n) (l .loop .at)) =
     c .code-of .ensures ∙ ap (λ (x : ℕ). codeWith x (l .loop .n) (l .loop .at)) (c .before .start-at .ensures) ∙ sym (code-at (file (l .before)) (l .loop .n) (l .loop .at) (omega arith) (omega arith)) in
     let w = l .loop .inv .4 ∙ ap (λ (xs : List Numbered). take (l .loop .count) (l .loop .codes) ++ map code xs) e ∙ ap (λ (x : ℕ). take (l .loop .count) (l .loop .codes) ++ (x ∷ map code (keep (falling (l .before)) (numberedAt (file (l .before)) (suc (l .loop .n)))))) (sym v) in
-    rw (add-one (l .loop .n), c .before .before .before .before .next-place .ensures) (t .next, omega arith, omega arith, length-set (l .loop .codes) (l .loop .count) (c .code-of .result) ∙ l .loop .inv .3, push (l .loop .codes) (l .loop .count) _ _ _ (omega arith) w)
+    rw (add-one (l .loop .n), c .before .before .before .before .next-place .ensures) (t .next, omega arith, omega arith, length-set (l .loop .codes) (l .loop .count) (c .code-of .result) ∙ l .loop .inv .3, codes-push (l .loop .codes) (l .loop .count) _ _ _ (omega arith) w)
 
 loop-less-2 : tie.Need-loop-less-2 Inv-loop μ-loop
 loop-less-2 c = omega arith

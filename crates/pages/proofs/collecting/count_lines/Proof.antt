@@ -8,10 +8,10 @@ use native.Mathlib.Omega.{arith}
 use native.Mathlib.Nat.{zero-add}
 use native.Mathlib.Numerals.{add-one}
 use lib.ListN.{length}
-use Rattle.prelude.specs.Keep.{keep}
-use Rattle.book.specs.BookLaws.{Cursor, cursor-first, cursor-ahead}
+use Rattle.sorting.specs.Keep.{keep}
+use Rattle.book.specs.Laws.Books.{Cursor, cursor-first, cursor-ahead}
 use Rattle.pages.specs.Pages.{Numbered, numbered, fallsOn}
-use Rattle.pages.specs.PageLaws.{numberedAt, numbered-first, Turn, turn, turn-yes, turn-no, turn-end, length-page}
+use Rattle.pages.specs.Laws.Pages.{numberedAt, numbered-first, Turn, record-turn, turn-yes, turn-no, turn-end, length-page}
 use Rattle.pages.proofs.collecting.count_lines.Statement.{statement}
 use Rattle.pages.proofs.collecting.count_lines.Tie as tie
 
@@ -30,7 +30,7 @@ abbrev falling : tie.After-f Inv-loop μ-loop → Numbered → Bool
 falling c = fallsOn (c .before .before .args .c) (c .before .before .args .a .facts)
 
 turned : (c : tie.After-next-place Inv-loop μ-loop) → Turn (file (c .before .before .before .before)) (c .before .before .before .loop .n) (c .before .before .before .loop .at)
-turned c = turn _ _ _ (c .before .before .before .loop .inv .0) (omega arith)
+turned c = record-turn _ _ _ (c .before .before .before .loop .inv .0) (omega arith)
 
 loop-holds : tie.Need-loop-holds Inv-loop μ-loop
 loop-holds c = (

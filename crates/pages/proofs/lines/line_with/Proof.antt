@@ -2,8 +2,8 @@
 -- Assumes nothing.
 use mathlib.Core.Path.{sym, _∙_, ap}
 use native.Mathlib.Omega.{arith}
-use Rattle.pages.specs.Answers.{lineIn}
-use Rattle.pages.specs.NthLaws.{nth-code, nth-no-code}
+use Rattle.pages.specs.Answers.{pageLineIn}
+use Rattle.pages.specs.Laws.Nth.{nth-code, nth-no-code}
 use Rattle.pages.specs.declared.types.LineAnswer.{LineAnswer}
 use borrow.Author.Needs.{needs}
 use Rattle.pages.proofs.lines.line_with.Statement.{statement}
@@ -28,7 +28,7 @@ same-length-2 : tie.Need-same-length-2
 same-length-2 c = search needs
 
 returns : tie.Need-returns
-unfolding lineIn
+unfolding pageLineIn
 returns c =
     let k = c .before .before .before .before .before .before .before in
     let a = k .before .before .before .before .before .before in
@@ -41,7 +41,7 @@ same-length-4 : tie.Need-same-length-4
 same-length-4 c = search needs
 
 returns-2 : tie.Need-returns-2
-unfolding lineIn
+unfolding pageLineIn
 returns-2 c =
     let k = c .before .before .before .before .before in
     let a = k .before .before .before .before .before .before in

@@ -1,8 +1,8 @@
 -- `page_lines` meets its contract: the book and the day decide, then the count.
 -- Assumes nothing.
 use mathlib.Core.Path.{sym, _∙_, ap}
-use Rattle.pages.specs.Answers.{countIn}
-use Rattle.pages.specs.PageLaws.{validated-ready}
+use Rattle.pages.specs.Answers.{pageCountIn}
+use Rattle.pages.specs.Laws.Pages.{validated-ready}
 use Rattle.pages.specs.declared.types.CountAnswer.{CountAnswer}
 use borrow.Author.Needs.{needs}
 use Rattle.pages.proofs.lines.page_lines.Statement.{statement}
@@ -21,12 +21,12 @@ enum-known-a-2 : tie.Need-enum-known-a-2
 enum-known-a-2 c = search needs
 
 returns : tie.Need-returns
-unfolding countIn
-returns c = ap CountAnswer.Count (c .count-lines .ensures) ∙ ap (countIn _ _) (sym (sym (c .before .before .before .before .validate .ensures) ∙ c .before .before .a .given .1))
+unfolding pageCountIn
+returns c = ap CountAnswer.Count (c .count-lines .ensures) ∙ ap (pageCountIn _ _) (sym (sym (c .before .before .before .before .validate .ensures) ∙ c .before .before .a .given .1))
 
 returns-2 : tie.Need-returns-2
-unfolding countIn
-returns-2 c = ap (countIn _ _) (sym (sym (c .before .before .before .validate .ensures) ∙ c .before .a2 .given .1))
+unfolding pageCountIn
+returns-2 c = ap (pageCountIn _ _) (sym (sym (c .before .before .before .validate .ensures) ∙ c .before .a2 .given .1))
 
 pub page-lines-spec : {M : Type 1} → statement M
 page-lines-spec =

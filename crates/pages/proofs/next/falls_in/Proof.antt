@@ -4,10 +4,10 @@ use mathlib.Core.Path.{sym, _∙_, ap}
 use native.Mathlib.Omega.{arith}
 use Prim.Native.Nat.{ℕ}
 use Rattle.book.specs.Books.{entryAt}
-use Rattle.book.specs.EntryLaws.{record-there}
+use Rattle.book.specs.Laws.Entries.{record-there}
 use Rattle.falls.specs.Falls.{falls}
 use Rattle.pages.specs.Answers.{fallsIn}
-use Rattle.pages.specs.NthLaws.{nth-record, nth-no-record}
+use Rattle.pages.specs.Laws.Nth.{nth-record, nth-no-record}
 use Rattle.pages.specs.declared.types.FallsAnswer.{FallsAnswer}
 use borrow.Author.Needs.{needs}
 use Rattle.pages.proofs.next.falls_in.Statement.{statement}

@@ -11,8 +11,8 @@ use Rattle.records.specs.Fields.{recordOf}
 use Rattle.records.specs.Ranges.{recordOk}
 use Rattle.pages.specs.Answers.{nextIn}
 use Rattle.pages.specs.Next.{nextOf}
-use Rattle.pages.specs.NthLaws.{nth-record, nth-no-record}
-use Rattle.pages.specs.SearchLaws.{record-sound}
+use Rattle.pages.specs.Laws.Nth.{nth-record, nth-no-record}
+use Rattle.pages.specs.Laws.Search.{record-sound}
 use borrow.Author.Needs.{needs}
 use Rattle.pages.proofs.next.next_in.Statement.{statement}
 use Rattle.pages.proofs.next.next_in.Tie as tie

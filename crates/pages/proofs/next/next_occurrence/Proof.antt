@@ -2,7 +2,7 @@
 -- Assumes nothing.
 use mathlib.Core.Path.{sym, _∙_, ap}
 use Rattle.pages.specs.Answers.{nextIn}
-use Rattle.pages.specs.PageLaws.{validated-ready}
+use Rattle.pages.specs.Laws.Pages.{validated-ready}
 use borrow.Author.Needs.{needs}
 use Rattle.pages.proofs.next.next_occurrence.Statement.{statement}
 use Rattle.pages.proofs.next.next_occurrence.Tie as tie

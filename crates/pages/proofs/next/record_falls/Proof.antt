@@ -2,7 +2,7 @@
 -- Assumes nothing.
 use mathlib.Core.Path.{sym, _∙_, ap}
 use Rattle.pages.specs.Answers.{fallsIn}
-use Rattle.pages.specs.PageLaws.{validated-ready}
+use Rattle.pages.specs.Laws.Pages.{validated-ready}
 use borrow.Author.Needs.{needs}
 use Rattle.pages.proofs.next.record_falls.Statement.{statement}
 use Rattle.pages.proofs.next.record_falls.Tie as tie

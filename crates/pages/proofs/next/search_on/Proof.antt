@@ -4,13 +4,14 @@ use Prim.Native.Nat.{_+_}
 use mathlib.Core.Path.{_≡_, sym, _∙_}
 use native.Mathlib.Omega.{arith}
 use borrow.Author.Needs.{needs}
-use Rattle.prelude.specs.Choice.{ifLt, is-lt, is-ge}
+use Rattle.prelude.specs.Choice.{ifLt}
+use Rattle.prelude.specs.Laws.Choice.{is-lt, is-ge}
 use Rattle.days.specs.Days.{lastDay}
 use Rattle.days.specs.Facts.{factsOf}
 use Rattle.records.specs.Fields.{recordOf}
 use Rattle.falls.specs.Falls.{falls}
 use Rattle.pages.specs.Next.{foundOn, noneFrom, nextOf}
-use Rattle.pages.specs.SearchLaws.{rule-next}
+use Rattle.pages.specs.Laws.Search.{rule-next}
 use Rattle.pages.proofs.next.search_on.Statement.{statement}
 use Rattle.pages.proofs.next.search_on.Tie as tie
 

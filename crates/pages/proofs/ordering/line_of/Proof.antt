@@ -1,6 +1,6 @@
 -- `line_of` meets its contract: number and place are taken out of the code.
 -- Assumes nothing.
-use Rattle.pages.specs.Pages.{lineOf}
+use Rattle.pages.specs.Pages.{pageLineOf}
 use Rattle.pages.specs.Codes.{decode}
 use borrow.Author.Needs.{needs}
 use Rattle.pages.proofs.ordering.line_of.Statement.{statement}
@@ -13,7 +13,7 @@ text-of-requires : tie.Need-text-of-requires
 text-of-requires c κs = search needs
 
 returns : tie.Need-returns
-unfolding lineOf decode
+unfolding pageLineOf decode
 returns c = cc
 
 pub line-of-spec : {M : Type 1} → statement M

@@ -2,9 +2,9 @@
 -- Assumes nothing.
 use mathlib.Core.Path.{sym, _∙_, ap}
 use native.Mathlib.Omega.{arith}
-use Rattle.pages.specs.CodeLaws.{page-codes, ordered-front}
-use Rattle.order.specs.Codes.{high}
-use Rattle.prelude.specs.Order.{sort}
+use Rattle.pages.specs.Laws.Codes.{page-codes, ordered-front}
+use Rattle.sorting.specs.Codes.{minuteIn}
+use Rattle.sorting.specs.Order.{sort}
 use borrow.Author.Needs.{needs}
 use Rattle.pages.proofs.ordering.page_codes.Statement.{statement}
 use Rattle.pages.proofs.ordering.page_codes.Tie as tie
@@ -25,7 +25,7 @@ returns : tie.Need-returns
 returns c =
     let o = c .before .before .before .before in
     let k = o .before .before .before .before .before in
-    (omega arith, ordered-front (k .collect .last .1 .1 .1 .0) (k .collect .result) (omega arith) (o .order-codes .ensures) ∙ ap (sort high) (k .collect .ensures .1) ∙ sym (page-codes _ _))
+    (omega arith, ordered-front (k .collect .last .1 .1 .1 .0) (k .collect .result) (omega arith) (o .order-codes .ensures) ∙ ap (sort minuteIn) (k .collect .ensures .1) ∙ sym (page-codes _ _))
 
 pub page-codes-spec : {M : Type 1} → statement M
 page-codes-spec =

@@ -1,7 +1,7 @@
 -- `text_of` meets its contract: behind the head and the fixed bytes, as long as the record says.
 -- Assumes nothing.
 use native.Mathlib.Omega.{arith}
-use Rattle.records.specs.JudgeLaws.{fixed-range}
+use Rattle.records.specs.Laws.Judged.{fixed-range}
 use Rattle.book.specs.Books.{entryAt}
 use borrow.Author.Needs.{needs}
 use Rattle.pages.proofs.ordering.text_of.Statement.{statement}

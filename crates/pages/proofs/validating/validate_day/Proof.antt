@@ -1,7 +1,7 @@
 -- `validate_day` meets its contract: the day layer decides, by `validated-facts`.
 -- Assumes nothing.
 use mathlib.Core.Path.{sym, _∙_, ap}
-use Rattle.pages.specs.PageLaws.{withFacts, validated-facts}
+use Rattle.pages.specs.Laws.Pages.{withFacts, validated-facts}
 use borrow.Author.Needs.{needs}
 use Rattle.pages.proofs.validating.validate_day.Statement.{statement}
 use Rattle.pages.proofs.validating.validate_day.Tie as tie

@@ -1,6 +1,6 @@
 -- `is_same` meets its contract: each return by its test.
 -- Assumes nothing.
-use Rattle.prelude.specs.Choice.{picks}
+use Rattle.prelude.specs.Laws.Choice.{picks}
 use Rattle.prelude.proofs.numbers.is_same.Statement.{statement}
 use Rattle.prelude.proofs.numbers.is_same.Tie as tie
 

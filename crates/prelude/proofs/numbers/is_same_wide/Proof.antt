@@ -1,6 +1,6 @@
 -- `is_same_wide` meets its contract: each return by its test.
 -- Assumes nothing.
-use Rattle.prelude.specs.Choice.{picks}
+use Rattle.prelude.specs.Laws.Choice.{picks}
 use Rattle.prelude.proofs.numbers.is_same_wide.Statement.{statement}
 use Rattle.prelude.proofs.numbers.is_same_wide.Tie as tie
 

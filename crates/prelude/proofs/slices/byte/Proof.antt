@@ -1,7 +1,7 @@
 -- `prelude::byte` meets its contract: past the end by `byte-past`.
 -- Assumes nothing.
 use mathlib.Core.Path.{sym}
-use Rattle.prelude.specs.Bytes.{byte-past}
+use Rattle.prelude.specs.Laws.Bytes.{byte-past}
 use borrow.Author.Needs.{needs}
 use Rattle.prelude.proofs.slices.byte.Statement.{statement}
 use Rattle.prelude.proofs.slices.byte.Tie as tie

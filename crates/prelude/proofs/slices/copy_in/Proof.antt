@@ -6,7 +6,7 @@ use native.Mathlib.Omega.{arith}
 use native.Mathlib.Numerals.{add-one}
 use lib.ListN.{length, length-set}
 use lib.Seq.{paste, paste-zero, paste-suc}
-use Rattle.prelude.specs.Splice.{paste-splice}
+use Rattle.prelude.specs.Laws.Splice.{paste-splice}
 use Rattle.prelude.proofs.slices.copy_in.Statement.{statement}
 use Rattle.prelude.proofs.slices.copy_in.Tie as tie
 

@@ -2,7 +2,7 @@
 -- Assumes nothing.
 use mathlib.Core.Path.{sym}
 use native.Mathlib.Omega.{arith}
-use Rattle.prelude.specs.Bytes.{word-past}
+use Rattle.prelude.specs.Laws.Bytes.{word-past}
 use borrow.Author.Needs.{needs}
 use Rattle.prelude.proofs.slices.word.Statement.{statement}
 use Rattle.prelude.proofs.slices.word.Tie as tie

@@ -2,9 +2,9 @@
 -- Assumes nothing.
 use mathlib.Core.Path.{sym, _∙_, ap}
 use borrow.Author.Needs.{needs}
-use Rattle.pages.specs.PageLaws.{validated-ready}
+use Rattle.pages.specs.Laws.Pages.{validated-ready}
 use Rattle.pages.specs.declared.types.CountAnswer.{CountAnswer}
-use Rattle.printing.specs.Answers.{lengthIn}
+use Rattle.printing.specs.Answers.{pageLengthIn}
 use Rattle.printing.proofs.calls.page_length.Statement.{statement}
 use Rattle.printing.proofs.calls.page_length.Tie as tie
 
@@ -21,12 +21,12 @@ enum-known-a-2 : tie.Need-enum-known-a-2
 enum-known-a-2 c = search needs
 
 returns : tie.Need-returns
-unfolding lengthIn
-returns c = ap CountAnswer.Count (c .page-size .ensures) ∙ ap (lengthIn _ _) (sym (sym (c .before .before .before .before .validate .ensures) ∙ c .before .before .a .given .1))
+unfolding pageLengthIn
+returns c = ap CountAnswer.Count (c .page-size .ensures) ∙ ap (pageLengthIn _ _) (sym (sym (c .before .before .before .before .validate .ensures) ∙ c .before .before .a .given .1))
 
 returns-2 : tie.Need-returns-2
-unfolding lengthIn
-returns-2 c = ap (lengthIn _ _) (sym (sym (c .before .before .before .validate .ensures) ∙ c .before .a2 .given .1))
+unfolding pageLengthIn
+returns-2 c = ap (pageLengthIn _ _) (sym (sym (c .before .before .before .validate .ensures) ∙ c .before .a2 .given .1))
 
 pub page-length-spec : {M : Type 1} → statement M
 page-length-spec =

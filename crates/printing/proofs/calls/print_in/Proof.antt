@@ -1,7 +1,7 @@
 -- `print_in` meets its contract: either working space has room for all records.
 -- Assumes nothing.
 use native.Mathlib.Omega.{arith}
-use Rattle.pages.specs.PageLaws.{ready-most}
+use Rattle.pages.specs.Laws.Pages.{ready-most}
 use borrow.Author.Needs.{needs}
 use Rattle.printing.proofs.calls.print_in.Statement.{statement}
 use Rattle.printing.proofs.calls.print_in.Tie as tie

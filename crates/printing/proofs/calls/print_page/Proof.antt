@@ -2,7 +2,7 @@
 -- Assumes nothing.
 use mathlib.Core.Path.{sym, _∙_, ap}
 use borrow.Author.Needs.{needs}
-use Rattle.pages.specs.PageLaws.{validated-ready}
+use Rattle.pages.specs.Laws.Pages.{validated-ready}
 use Rattle.printing.specs.Answers.{printIn, printLeaves}
 use Rattle.printing.proofs.calls.print_page.Statement.{statement}
 use Rattle.printing.proofs.calls.print_page.Tie as tie

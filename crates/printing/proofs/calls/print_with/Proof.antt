@@ -5,8 +5,9 @@ use native.Mathlib.Omega.{arith}
 use lib.ListN.{take}
 use lib.Seq.{length-take-le}
 use Rattle.printing.specs.Printed.{pageText}
-use Rattle.printing.specs.PrintedLaws.{codedText, page-of-codes}
-use Rattle.printing.specs.SizeLaws.{page-most}
+use Rattle.printing.specs.Coded.{codedText}
+use Rattle.printing.specs.Laws.Printed.{page-of-codes}
+use Rattle.printing.specs.Laws.Sizes.{page-most}
 use Rattle.printing.specs.Answers.{printIn, printLeaves}
 use borrow.Author.Needs.{needs}
 use Rattle.printing.proofs.calls.print_with.Statement.{statement}

@@ -3,22 +3,23 @@
 use mathlib.Core.List.{_++_}
 use borrow.Author.Needs.{needs}
 use lib.ListN.{length}
-use Rattle.prelude.specs.Grown.{Grown, start, space, space-last, grow, turn, finish-last}
+use Rattle.prelude.specs.Laws.Grown.{Grown, grown-start, grown-space, space-last, grown-more, grown-turn, finish-last}
 use Rattle.printing.specs.Printed.{headLine, pageLines}
-use Rattle.printing.specs.PrintedLaws.{linesOf, codedText, coded-parts}
+use Rattle.printing.specs.Coded.{codedLines, codedText}
+use Rattle.printing.specs.Laws.Printed.{coded-parts}
 use Rattle.printing.proofs.calls.put_page.Statement.{statement}
 use Rattle.printing.proofs.calls.put_page.Tie as tie
 
 -- before the head
-g0 : (s : tie.Start) → let a = s .args in Grown (a .out .now) 0 (codedText (a .file .now) (a .f) (a .codes .now)) (a .out .now) 0 (headLine (a .f) (length (a .codes .now)) ++ pageLines (a .file .now) (linesOf (a .file .now) (a .codes .now)))
-g0 s = turn (coded-parts _ _ _) (start (s .pre))
+g0 : (s : tie.Start) → let a = s .args in Grown (a .out .now) 0 (codedText (a .file .now) (a .f) (a .codes .now)) (a .out .now) 0 (headLine (a .f) (length (a .codes .now)) ++ pageLines (a .file .now) (codedLines (a .file .now) (a .codes .now)))
+g0 s = grown-turn (coded-parts _ _ _) (grown-start (s .pre))
 
 -- behind it
-g1 : (c : tie.After-put-head) → let a = c .before .before .before .before .before .args in Grown (a .out .now) 0 (codedText (a .file .now) (a .f) (a .codes .now)) (c .put-head .last .0) (c .put-head .result) (pageLines (a .file .now) (linesOf (a .file .now) (a .codes .now)))
-g1 c = grow _ (g0 (c .before .before .before .before .before)) (c .put-head .ensures .0) (c .put-head .ensures .1)
+g1 : (c : tie.After-put-head) → let a = c .before .before .before .before .before .args in Grown (a .out .now) 0 (codedText (a .file .now) (a .f) (a .codes .now)) (c .put-head .last .0) (c .put-head .result) (pageLines (a .file .now) (codedLines (a .file .now) (a .codes .now)))
+g1 c = grown-more _ (g0 (c .before .before .before .before .before)) (c .put-head .ensures .0) (c .put-head .ensures .1)
 
 put-head-requires : tie.Need-put-head-requires
-put-head-requires c κs = space (headLine _ _) _ (g0 (c .before .before .before .before))
+put-head-requires c κs = grown-space (headLine _ _) _ (g0 (c .before .before .before .before))
 
 put-lines-requires : tie.Need-put-lines-requires
 put-lines-requires c κs = space-last (g1 (c .before .before .before))

@@ -5,13 +5,14 @@ use mathlib.Core.Path.{_≡_}
 use native.Mathlib.Omega.{arith}
 use lib.ListN.{length}
 use Rattle.printing.specs.Printed.{pageLines}
-use Rattle.printing.specs.PrintedLaws.{linesOf, codedText, length-coded}
+use Rattle.printing.specs.Coded.{codedLines, codedText}
+use Rattle.printing.specs.Laws.Printed.{length-coded}
 use borrow.Author.Needs.{needs}
 use Rattle.printing.proofs.measures.coded_size.Statement.{statement}
 use Rattle.printing.proofs.measures.coded_size.Tie as tie
 
 -- the sum, and its bound
-sum : (c : tie.After-decimal-length) → let a = c .before .before .before .args in (16 + c .decimal-length .result + length (pageLines (a .file .now) (linesOf (a .file .now) (a .codes .now))) ≡ length (codedText (a .file .now) (a .f) (a .codes .now))) × (length (codedText (a .file .now) (a .f) (a .codes .now)) ≤ 65535)
+sum : (c : tie.After-decimal-length) → let a = c .before .before .before .args in (16 + c .decimal-length .result + length (pageLines (a .file .now) (codedLines (a .file .now) (a .codes .now))) ≡ length (codedText (a .file .now) (a .f) (a .codes .now))) × (length (codedText (a .file .now) (a .f) (a .codes .now)) ≤ 65535)
 sum c =
     let s = c .before .before .before in
     (omega (arith, c .decimal-length .ensures, length-coded (s .args .file .now) (s .args .f) (s .args .codes .now)), s .pre)

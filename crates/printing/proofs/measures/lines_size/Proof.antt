@@ -7,19 +7,20 @@ use native.Mathlib.Nat.{zero-add}
 use borrow.Author.Needs.{needs}
 use lib.ListN.{length, drop}
 use Rattle.printing.specs.Printed.{pageLines}
-use Rattle.printing.specs.PrintedLaws.{linesOf, lines-on, lines-end}
+use Rattle.printing.specs.Coded.{codedLines}
+use Rattle.printing.specs.Laws.Printed.{lines-on, lines-end}
 use Rattle.printing.proofs.measures.lines_size.Statement.{statement}
 use Rattle.printing.proofs.measures.lines_size.Tie as tie
 
 abbrev Inv-loop : tie.InvT-loop
 Inv-loop file codes bytes₀ i₀ bytes i =
-    (i ≤ length codes) × (length (pageLines file (linesOf file codes)) ≡ bytes + length (pageLines file (linesOf file (drop i codes))))
+    (i ≤ length codes) × (length (pageLines file (codedLines file codes)) ≡ bytes + length (pageLines file (codedLines file (drop i codes))))
 
 abbrev μ-loop : tie.MeasureT-loop
 μ-loop file codes bytes₀ i₀ bytes i = length codes - i
 
 -- one line more
-added : (c : tie.After-line-size Inv-loop μ-loop) → let l = c .before .before .before in let a = l .before .before .before .args in length (pageLines (a .file .now) (linesOf (a .file .now) (a .codes .now))) ≡ l .loop .bytes + c .line-size .result + length (pageLines (a .file .now) (linesOf (a .file .now) (drop (l .loop .i + 1) (a .codes .now))))
+added : (c : tie.After-line-size Inv-loop μ-loop) → let l = c .before .before .before in let a = l .before .before .before .args in length (pageLines (a .file .now) (codedLines (a .file .now) (a .codes .now))) ≡ l .loop .bytes + c .line-size .result + length (pageLines (a .file .now) (codedLines (a .file .now) (drop (l .loop .i + 1) (a .codes .now))))
 added c =
     let l = c .before .before .before in
     let a = l .before .before .before .args in

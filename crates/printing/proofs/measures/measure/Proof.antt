@@ -8,13 +8,15 @@ use native.Mathlib.Omega.{arith}
 use native.Mathlib.Nat.{zero-add}
 use native.Mathlib.Numerals.{add-one}
 use lib.ListN.{length}
-use Rattle.prelude.specs.Keep.{keep}
-use Rattle.book.specs.BookLaws.{Cursor, cursor-first, cursor-ahead}
+use Rattle.sorting.specs.Keep.{keep}
+use Rattle.book.specs.Laws.Books.{Cursor, cursor-first, cursor-ahead}
 use Rattle.pages.specs.Pages.{Numbered, numbered, fallsOn}
-use Rattle.pages.specs.PageLaws.{numberedAt, numbered-first, recordAt, Turn, turn, turn-yes, turn-no, turn-end, length-page}
-use Rattle.prelude.specs.Totals.{total, total-nil, total-cons}
-use Rattle.printing.specs.PrintedLaws.{lineSize, line-size}
-use Rattle.printing.specs.SizeLaws.{page-bytes, book-most}
+use Rattle.pages.specs.Laws.Pages.{numberedAt, numbered-first, Turn, record-turn, turn-yes, turn-no, turn-end, length-page}
+use Rattle.pages.specs.Invariants.{recordAt}
+use Rattle.sorting.specs.Totals.{total}
+use Rattle.sorting.specs.Laws.Totals.{total-nil, total-cons}
+use Rattle.printing.specs.Laws.Printed.{lineSize, line-size}
+use Rattle.printing.specs.Laws.Sizes.{page-bytes, book-most}
 use Rattle.printing.proofs.measures.measure.Statement.{statement}
 use Rattle.printing.proofs.measures.measure.Tie as tie
 
@@ -33,7 +35,7 @@ abbrev falling : tie.After-f Inv-loop μ-loop → Numbered → Bool
 falling c = fallsOn (c .before .before .args .c) (c .before .before .args .a .facts)
 
 turned : (c : tie.After-next-place Inv-loop μ-loop) → Turn (file (c .before .before .before .before)) (c .before .before .before .loop .n) (c .before .before .before .loop .at)
-turned c = turn _ _ _ (c .before .before .before .loop .inv .0) (omega arith)
+turned c = record-turn _ _ _ (c .before .before .before .loop .inv .0) (omega arith)
 
 -- all records that fall on the day are few and small
 most : (c : tie.After-f Inv-loop μ-loop) → (total (lineSize (file c)) (keep (falling c) (numbered (file c))) + length (keep (falling c) (numbered (file c))) ≤ 65535)

@@ -8,7 +8,7 @@ use lib.ListN.{length}
 use Rattle.digits.specs.Digits.{decimal}
 use Rattle.pages.specs.Pages.{pageOn}
 use Rattle.printing.specs.Printed.{pageText}
-use Rattle.printing.specs.SizeLaws.{page-size, page-most}
+use Rattle.printing.specs.Laws.Sizes.{page-size, page-most}
 use Rattle.printing.proofs.measures.page_size.Statement.{statement}
 use Rattle.printing.proofs.measures.page_size.Tie as tie
 

@@ -3,7 +3,7 @@
 use borrow.Author.Needs.{needs}
 use Prim.Native.Nat.{ℕ, _/_, _%_}
 use mathlib.Core.List.{List, [], _∷_, _++_}
-use Rattle.prelude.specs.Grown.{Grown, start, space, space-last, grow, finish-last}
+use Rattle.prelude.specs.Laws.Grown.{Grown, grown-start, grown-space, space-last, grown-more, finish-last}
 use Rattle.digits.specs.Digits.{two}
 use Rattle.printing.specs.Printed.{colon, clock}
 use Rattle.printing.proofs.puts.put_clock.Statement.{statement}
@@ -15,25 +15,25 @@ Left s o pos rest = Grown (s .args .out .now) (s .args .at) (clock (s .args .m))
 
 g0 : (s : tie.Start) → Left s (s .args .out .now) (s .args .at) (two (s .args .m / 60) ++ (colon ∷ two (s .args .m % 60)))
 unfolding clock
-g0 s = start (s .pre)
+g0 s = grown-start (s .pre)
 
 abbrev s1 : tie.After-put-two → tie.Start
 s1 c = c .before .before .before
 
 g1 : (c : tie.After-put-two) → Left (s1 c) (c .put-two .last .0) (c .put-two .result) (colon ∷ two (s1 c .args .m % 60))
-g1 c = grow _ (g0 (s1 c)) (c .put-two .ensures .0) (c .put-two .ensures .1)
+g1 c = grown-more _ (g0 (s1 c)) (c .put-two .ensures .0) (c .put-two .ensures .1)
 
 abbrev s2 : tie.After-put-byte → tie.Start
 s2 c = s1 (c .before .before .before .before)
 
 g2 : (c : tie.After-put-byte) → Left (s2 c) (c .put-byte .last .0) (c .put-byte .result) (two (s2 c .args .m % 60))
-g2 c = grow (colon ∷ []) (g1 (c .before .before .before .before)) (c .put-byte .ensures .0) (c .put-byte .ensures .1)
+g2 c = grown-more (colon ∷ []) (g1 (c .before .before .before .before)) (c .put-byte .ensures .0) (c .put-byte .ensures .1)
 
 put-two-requires : tie.Need-put-two-requires
-put-two-requires c κs = space (two _) _ (g0 (c .before .before))
+put-two-requires c κs = grown-space (two _) _ (g0 (c .before .before))
 
 put-byte-requires : tie.Need-put-byte-requires
-put-byte-requires c κs = space (colon ∷ []) _ (g1 (c .before .before .before))
+put-byte-requires c κs = grown-space (colon ∷ []) _ (g1 (c .before .before .before))
 
 put-two-requires-2 : tie.Need-put-two-requires-2
 put-two-requires-2 c κs = space-last (g2 (c .before .before .before))

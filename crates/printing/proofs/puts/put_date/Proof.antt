@@ -3,7 +3,7 @@
 use borrow.Author.Needs.{needs}
 use Prim.Native.Nat.{ℕ}
 use mathlib.Core.List.{List, [], _∷_, _++_}
-use Rattle.prelude.specs.Grown.{Grown, start, space, space-last, grow, finish-last}
+use Rattle.prelude.specs.Laws.Grown.{Grown, grown-start, grown-space, space-last, grown-more, finish-last}
 use Rattle.digits.specs.Digits.{two, four}
 use Rattle.printing.specs.Printed.{dash, dateText}
 use Rattle.printing.proofs.puts.put_date.Statement.{statement}
@@ -15,43 +15,43 @@ Left s o pos rest = Grown (s .args .out .now) (s .args .at) (dateText (s .args .
 
 g0 : (s : tie.Start) → Left s (s .args .out .now) (s .args .at) (four (s .args .d .year) ++ (dash ∷ (two (s .args .d .month) ++ (dash ∷ two (s .args .d .day)))))
 unfolding dateText
-g0 s = start (s .pre)
+g0 s = grown-start (s .pre)
 
 abbrev s1 : tie.After-put-four → tie.Start
 s1 c = c .before .before .before
 
 g1 : (c : tie.After-put-four) → Left (s1 c) (c .put-four .last .0) (c .put-four .result) (dash ∷ (two (s1 c .args .d .month) ++ (dash ∷ two (s1 c .args .d .day))))
-g1 c = grow _ (g0 (s1 c)) (c .put-four .ensures .0) (c .put-four .ensures .1)
+g1 c = grown-more _ (g0 (s1 c)) (c .put-four .ensures .0) (c .put-four .ensures .1)
 
 abbrev s2 : tie.After-put-byte → tie.Start
 s2 c = s1 (c .before .before .before .before)
 
 g2 : (c : tie.After-put-byte) → Left (s2 c) (c .put-byte .last .0) (c .put-byte .result) (two (s2 c .args .d .month) ++ (dash ∷ two (s2 c .args .d .day)))
-g2 c = grow (dash ∷ []) (g1 (c .before .before .before .before)) (c .put-byte .ensures .0) (c .put-byte .ensures .1)
+g2 c = grown-more (dash ∷ []) (g1 (c .before .before .before .before)) (c .put-byte .ensures .0) (c .put-byte .ensures .1)
 
 abbrev s3 : tie.After-put-two → tie.Start
 s3 c = s2 (c .before .before .before .before)
 
 g3 : (c : tie.After-put-two) → Left (s3 c) (c .put-two .last .0) (c .put-two .result) (dash ∷ two (s3 c .args .d .day))
-g3 c = grow _ (g2 (c .before .before .before .before)) (c .put-two .ensures .0) (c .put-two .ensures .1)
+g3 c = grown-more _ (g2 (c .before .before .before .before)) (c .put-two .ensures .0) (c .put-two .ensures .1)
 
 abbrev s4 : tie.After-put-byte2 → tie.Start
 s4 c = s3 (c .before .before .before .before)
 
 g4 : (c : tie.After-put-byte2) → Left (s4 c) (c .put-byte2 .last .0) (c .put-byte2 .result) (two (s4 c .args .d .day))
-g4 c = grow (dash ∷ []) (g3 (c .before .before .before .before)) (c .put-byte2 .ensures .0) (c .put-byte2 .ensures .1)
+g4 c = grown-more (dash ∷ []) (g3 (c .before .before .before .before)) (c .put-byte2 .ensures .0) (c .put-byte2 .ensures .1)
 
 put-four-requires : tie.Need-put-four-requires
-put-four-requires c κs = space (four _) _ (g0 (c .before .before))
+put-four-requires c κs = grown-space (four _) _ (g0 (c .before .before))
 
 put-byte-requires : tie.Need-put-byte-requires
-put-byte-requires c κs = space (dash ∷ []) _ (g1 (c .before .before .before))
+put-byte-requires c κs = grown-space (dash ∷ []) _ (g1 (c .before .before .before))
 
 put-two-requires : tie.Need-put-two-requires
-put-two-requires c κs = space (two _) _ (g2 (c .before .before .before))
+put-two-requires c κs = grown-space (two _) _ (g2 (c .before .before .before))
 
 put-byte-requires-2 : tie.Need-put-byte-requires-2
-put-byte-requires-2 c κs = space (dash ∷ []) _ (g3 (c .before .before .before))
+put-byte-requires-2 c κs = grown-space (dash ∷ []) _ (g3 (c .before .before .before))
 
 put-two-requires-2 : tie.Need-put-two-requires-2
 put-two-requires-2 c κs = space-last (g4 (c .before .before .before))

@@ -4,7 +4,7 @@ use borrow.Author.Needs.{needs}
 use Prim.Native.Nat.{ℕ}
 use mathlib.Core.List.{List, [], _∷_, _++_}
 use Rattle.prelude.specs.Bytes.{stretchBytes}
-use Rattle.prelude.specs.Grown.{Grown, start, space, space-last, grow, finish-last}
+use Rattle.prelude.specs.Laws.Grown.{Grown, grown-start, grown-space, space-last, grown-more, finish-last}
 use Rattle.printing.specs.Printed.{newline, space as blank, dash, clock, pageLine}
 use Rattle.printing.proofs.puts.put_line.Statement.{statement}
 use Rattle.printing.proofs.puts.put_line.Tie as tie
@@ -15,31 +15,31 @@ Left s o pos rest = Grown (s .args .out .now) (s .args .at) (pageLine (s .args .
 
 g0 : (s : tie.Start) → Left s (s .args .out .now) (s .args .at) (clock (s .args .l .start .0) ++ (dash ∷ (clock (s .args .l .end .0) ++ (blank ∷ (stretchBytes (s .args .file .now) (s .args .l .text) ++ (newline ∷ []))))))
 unfolding pageLine
-g0 s = start (s .pre)
+g0 s = grown-start (s .pre)
 
 abbrev s1 : tie.After-put-clock → tie.Start
 s1 c = c .before .before .before .before
 
 g1 : (c : tie.After-put-clock) → Left (s1 c) (c .put-clock .last .0) (c .put-clock .result) (dash ∷ (clock (s1 c .args .l .end .0) ++ (blank ∷ (stretchBytes (s1 c .args .file .now) (s1 c .args .l .text) ++ (newline ∷ [])))))
-g1 c = grow _ (g0 (s1 c)) (c .put-clock .ensures .0) (c .put-clock .ensures .1)
+g1 c = grown-more _ (g0 (s1 c)) (c .put-clock .ensures .0) (c .put-clock .ensures .1)
 
 abbrev s2 : tie.After-put-byte → tie.Start
 s2 c = s1 (c .before .before .before .before)
 
 g2 : (c : tie.After-put-byte) → Left (s2 c) (c .put-byte .last .0) (c .put-byte .result) (clock (s2 c .args .l .end .0) ++ (blank ∷ (stretchBytes (s2 c .args .file .now) (s2 c .args .l .text) ++ (newline ∷ []))))
-g2 c = grow (dash ∷ []) (g1 (c .before .before .before .before)) (c .put-byte .ensures .0) (c .put-byte .ensures .1)
+g2 c = grown-more (dash ∷ []) (g1 (c .before .before .before .before)) (c .put-byte .ensures .0) (c .put-byte .ensures .1)
 
 abbrev s3 : tie.After-put-clock2 → tie.Start
 s3 c = s2 (c .before .before .before .before)
 
 g3 : (c : tie.After-put-clock2) → Left (s3 c) (c .put-clock2 .last .0) (c .put-clock2 .result) (blank ∷ (stretchBytes (s3 c .args .file .now) (s3 c .args .l .text) ++ (newline ∷ [])))
-g3 c = grow _ (g2 (c .before .before .before .before)) (c .put-clock2 .ensures .0) (c .put-clock2 .ensures .1)
+g3 c = grown-more _ (g2 (c .before .before .before .before)) (c .put-clock2 .ensures .0) (c .put-clock2 .ensures .1)
 
 abbrev s4 : tie.After-put-byte2 → tie.Start
 s4 c = s3 (c .before .before .before .before)
 
 g4 : (c : tie.After-put-byte2) → Left (s4 c) (c .put-byte2 .last .0) (c .put-byte2 .result) (stretchBytes (s4 c .args .file .now) (s4 c .args .l .text) ++ (newline ∷ []))
-g4 c = grow (blank ∷ []) (g3 (c .before .before .before .before)) (c .put-byte2 .ensures .0) (c .put-byte2 .ensures .1)
+g4 c = grown-more (blank ∷ []) (g3 (c .before .before .before .before)) (c .put-byte2 .ensures .0) (c .put-byte2 .ensures .1)
 
 abbrev s5 : tie.After-copy-in → tie.Start
 s5 c = s4 (c .before .before .before .before .before)
@@ -47,19 +47,19 @@ s5 c = s4 (c .before .before .before .before .before)
 g5 : (c : tie.After-copy-in) → Left (s5 c) (c .copy-in .last .0) (c .copy-in .result) (newline ∷ [])
 g5 c =
     let e = c .before .before .part .ensures in
-    grow _ (g4 (c .before .before .before .before .before)) (rw e at (c .copy-in .ensures .0)) (rw e at (c .copy-in .ensures .1))
+    grown-more _ (g4 (c .before .before .before .before .before)) (rw e at (c .copy-in .ensures .0)) (rw e at (c .copy-in .ensures .1))
 
 put-clock-requires : tie.Need-put-clock-requires
-put-clock-requires c κs = space (clock _) _ (g0 (c .before .before .before))
+put-clock-requires c κs = grown-space (clock _) _ (g0 (c .before .before .before))
 
 put-byte-requires : tie.Need-put-byte-requires
-put-byte-requires c κs = space (dash ∷ []) _ (g1 (c .before .before .before))
+put-byte-requires c κs = grown-space (dash ∷ []) _ (g1 (c .before .before .before))
 
 put-clock-requires-2 : tie.Need-put-clock-requires-2
-put-clock-requires-2 c κs = space (clock _) _ (g2 (c .before .before .before))
+put-clock-requires-2 c κs = grown-space (clock _) _ (g2 (c .before .before .before))
 
 put-byte-requires-2 : tie.Need-put-byte-requires-2
-put-byte-requires-2 c κs = space (blank ∷ []) _ (g3 (c .before .before .before))
+put-byte-requires-2 c κs = grown-space (blank ∷ []) _ (g3 (c .before .before .before))
 
 part-requires : tie.Need-part-requires
 part-requires c κs = search needs
@@ -67,7 +67,7 @@ part-requires c κs = search needs
 copy-in-requires : tie.Need-copy-in-requires
 copy-in-requires c κs =
     let s = s4 (c .before .before .before .before) in
-    rw (c .before .part .ensures) (space (stretchBytes (s .args .file .now) (s .args .l .text)) _ (g4 (c .before .before .before .before)))
+    rw (c .before .part .ensures) (grown-space (stretchBytes (s .args .file .now) (s .args .l .text)) _ (g4 (c .before .before .before .before)))
 
 put-byte-requires-3 : tie.Need-put-byte-requires-3
 put-byte-requires-3 c κs = space-last (g5 (c .before .before .before))

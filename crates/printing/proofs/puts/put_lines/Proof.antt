@@ -6,30 +6,31 @@ use mathlib.Core.List.{_++_}
 use native.Mathlib.Omega.{arith}
 use borrow.Author.Needs.{needs}
 use lib.ListN.{length, drop}
-use Rattle.prelude.specs.Grown.{Grown, start, space, grow, turn, finish}
+use Rattle.prelude.specs.Laws.Grown.{Grown, grown-start, grown-space, grown-more, grown-turn, grown-end}
 use Rattle.pages.specs.declared.types.Line.{Line}
 use Rattle.printing.specs.Printed.{pageLine, pageLines}
-use Rattle.printing.specs.PrintedLaws.{linesOf, lines-next, lines-end}
+use Rattle.printing.specs.Coded.{codedLines}
+use Rattle.printing.specs.Laws.Printed.{lines-next, lines-end}
 use Rattle.printing.proofs.puts.put_lines.Statement.{statement}
 use Rattle.printing.proofs.puts.put_lines.Tie as tie
 
 abbrev Inv-loop : tie.InvT-loop
 Inv-loop file codes out₀ at pos₀ i₀ out pos i =
-    Grown out₀ at (pageLines file (linesOf file codes)) out pos (pageLines file (linesOf file (drop i codes)))
+    Grown out₀ at (pageLines file (codedLines file codes)) out pos (pageLines file (codedLines file (drop i codes)))
 
 abbrev μ-loop : tie.MeasureT-loop
 μ-loop file codes out₀ at pos₀ i₀ out pos i =
     length codes - i
 
 -- the next line, and those behind it
-next : (c : tie.After-line-of Inv-loop μ-loop) → let l = c .before .before .before in let a = l .before .before .before .before .args in Grown (a .out .now) (a .at) (pageLines (a .file .now) (linesOf (a .file .now) (a .codes .now))) (l .loop .out) (l .loop .pos) (pageLine (a .file .now) (c .line-of .result) ++ pageLines (a .file .now) (linesOf (a .file .now) (drop (l .loop .i + 1) (a .codes .now))))
+next : (c : tie.After-line-of Inv-loop μ-loop) → let l = c .before .before .before in let a = l .before .before .before .before .args in Grown (a .out .now) (a .at) (pageLines (a .file .now) (codedLines (a .file .now) (a .codes .now))) (l .loop .out) (l .loop .pos) (pageLine (a .file .now) (c .line-of .result) ++ pageLines (a .file .now) (codedLines (a .file .now) (drop (l .loop .i + 1) (a .codes .now))))
 next c =
     let l = c .before .before .before in
     let a = l .before .before .before .before .args in
-    turn (lines-next (a .file .now) (a .codes .now) (l .loop .i) (omega arith) ∙ ap (λ (x : Line). pageLine (a .file .now) x ++ pageLines (a .file .now) (linesOf (a .file .now) (drop (l .loop .i + 1) (a .codes .now)))) (sym (c .line-of .ensures))) (l .loop .inv)
+    grown-turn (lines-next (a .file .now) (a .codes .now) (l .loop .i) (omega arith) ∙ ap (λ (x : Line). pageLine (a .file .now) x ++ pageLines (a .file .now) (codedLines (a .file .now) (drop (l .loop .i + 1) (a .codes .now)))) (sym (c .line-of .ensures))) (l .loop .inv)
 
 loop-holds : tie.Need-loop-holds Inv-loop μ-loop
-loop-holds c = start (c .before .before .before .pre)
+loop-holds c = grown-start (c .before .before .before .pre)
 
 mul-line-of : tie.Need-mul-line-of Inv-loop μ-loop
 mul-line-of c = search needs
@@ -41,7 +42,7 @@ line-of-requires : tie.Need-line-of-requires Inv-loop μ-loop
 line-of-requires c κs = search needs
 
 put-line-requires : tie.Need-put-line-requires Inv-loop μ-loop
-put-line-requires c κs = space (pageLine _ _) _ (next (c .before))
+put-line-requires c κs = grown-space (pageLine _ _) _ (next (c .before))
 
 add-i : tie.Need-add-i Inv-loop μ-loop
 add-i c = omega arith
@@ -52,7 +53,7 @@ loop-less c = omega arith
 loop-again : tie.Need-loop-again Inv-loop μ-loop
 loop-again c =
     let p = c .before .before in
-    grow _ (next (p .before .before)) (p .put-line .ensures .0) (p .put-line .ensures .1)
+    grown-more _ (next (p .before .before)) (p .put-line .ensures .0) (p .put-line .ensures .1)
 
 same-length : tie.Need-same-length Inv-loop μ-loop
 same-length c = c .before .loop .inv .long
@@ -61,7 +62,7 @@ returns : tie.Need-returns Inv-loop μ-loop
 returns c =
     let l = c .before in
     let a = l .before .before .before .before .args in
-    finish (turn (lines-end (a .file .now) (a .codes .now) (l .loop .i) (omega arith)) (l .loop .inv))
+    grown-end (grown-turn (lines-end (a .file .now) (a .codes .now) (l .loop .i) (omega arith)) (l .loop .inv))
 
 pub put-lines-spec : {M : Type 1} → statement M
 put-lines-spec =

@@ -1,7 +1,7 @@
 -- `weekday_name` meets its contract: one by one.
 -- Assumes nothing.
 use Rattle.printing.specs.Printed.{weekdayName}
-use Rattle.prelude.specs.Choice.{picks}
+use Rattle.prelude.specs.Laws.Choice.{picks}
 use Rattle.printing.proofs.puts.weekday_name.Statement.{statement}
 use Rattle.printing.proofs.puts.weekday_name.Tie as tie
 

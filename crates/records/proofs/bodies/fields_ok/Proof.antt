@@ -1,6 +1,6 @@
 -- `fields_ok` meets its contract: each return is the choice that its tests make.
 -- Assumes nothing.
-use Rattle.prelude.specs.Choice.{picks}
+use Rattle.prelude.specs.Laws.Choice.{picks}
 use mathlib.Core.Path.{ap, _∙_}
 use Rattle.records.specs.Ranges.{datedOk, weeklyOk, monthlyByDateOk, monthlyByPositionOk, yearlyOk, toDoOk}
 use Rattle.records.specs.Bodies.{fieldsOk}

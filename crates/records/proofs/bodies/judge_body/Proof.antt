@@ -5,11 +5,11 @@ use Prim.Native.Nat.{ℕ, _-_}
 use mathlib.Core.Path.{_≡_, refl, _∙_, ap}
 use mathlib.Core.Bool.{true}
 use lib.ListN.{getD}
-use Rattle.prelude.specs.Choice.{b-yes, b-no, by-yes, by-no}
+use Rattle.prelude.specs.Laws.Choice.{b-yes, b-no, by-yes, by-no}
 use Rattle.prelude.specs.Bytes.{word}
 use Rattle.records.specs.Fields.{textLength, noteLength}
 use Rattle.records.specs.Bodies.{lengthsOk, textsOk, judgeBody}
-use Rattle.records.specs.JudgeLaws.{fixed-range, lengths-over, lengths-text, lengths-fit}
+use Rattle.records.specs.Laws.Judged.{fixed-range, lengths-over, lengths-text, lengths-fit}
 use borrow.Author.Needs.{needs}
 use Rattle.records.proofs.bodies.judge_body.Statement.{statement}
 use Rattle.records.proofs.bodies.judge_body.Tie as tie

@@ -2,7 +2,7 @@
 -- Assumes nothing.
 use mathlib.Core.Path.{refl}
 use native.Mathlib.Nat.{add-sub-cancel-left}
-use Rattle.prelude.specs.Choice.{by-yes, by-no}
+use Rattle.prelude.specs.Laws.Choice.{by-yes, by-no}
 use borrow.Author.Needs.{needs}
 use Rattle.records.proofs.bodies.texts_ok.Statement.{statement}
 use Rattle.records.proofs.bodies.texts_ok.Tie as tie

@@ -1,6 +1,6 @@
 -- `fixed_of` meets its contract: each return is the choice that its tests make.
 -- Assumes nothing.
-use Rattle.prelude.specs.Choice.{picks}
+use Rattle.prelude.specs.Laws.Choice.{picks}
 use Rattle.records.specs.Fields.{fixedOf}
 use Rattle.records.proofs.fields.fixed_of.Statement.{statement}
 use Rattle.records.proofs.fields.fixed_of.Tie as tie

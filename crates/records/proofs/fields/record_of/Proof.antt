@@ -1,6 +1,6 @@
 -- `record_of` meets its contract: each return is the choice that its tests make.
 -- Assumes nothing.
-use Rattle.prelude.specs.Choice.{picks}
+use Rattle.prelude.specs.Laws.Choice.{picks}
 use Rattle.records.specs.Fields.{recordOf}
 use borrow.Author.Needs.{needs}
 use Rattle.records.proofs.fields.record_of.Statement.{statement}

@@ -1,7 +1,7 @@
 -- `text_length` meets its contract: it is what its callees give.
 -- Assumes nothing.
 use native.Mathlib.Omega.{arith}
-use Rattle.records.specs.JudgeLaws.{fixed-range}
+use Rattle.records.specs.Laws.Judged.{fixed-range}
 use borrow.Author.Needs.{needs}
 use Rattle.records.proofs.fields.text_length.Statement.{statement}
 use Rattle.records.proofs.fields.text_length.Tie as tie

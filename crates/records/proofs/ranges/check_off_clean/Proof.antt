@@ -1,6 +1,6 @@
 -- `check_off_clean` meets its contract: each return is the choice that its tests make.
 -- Assumes nothing.
-use Rattle.prelude.specs.Choice.{picks, by-no}
+use Rattle.prelude.specs.Laws.Choice.{picks, by-no}
 use Rattle.records.specs.Ranges.{checkOffClean}
 use borrow.Author.Needs.{needs}
 use Rattle.records.proofs.ranges.check_off_clean.Statement.{statement}

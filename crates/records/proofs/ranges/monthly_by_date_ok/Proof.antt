@@ -1,6 +1,6 @@
 -- `monthly_by_date_ok` meets its contract: each return is the choice that its tests make.
 -- Assumes nothing.
-use Rattle.prelude.specs.Choice.{picks}
+use Rattle.prelude.specs.Laws.Choice.{picks}
 use Rattle.records.specs.Ranges.{monthlyByDateOk}
 use borrow.Author.Needs.{needs}
 use Rattle.records.proofs.ranges.monthly_by_date_ok.Statement.{statement}

@@ -1,6 +1,6 @@
 -- `record_ok` meets its contract: each arm is a clause of its definition.
 -- Assumes nothing.
-use Rattle.records.specs.KindLaws.{kinds}
+use Rattle.records.specs.Laws.Kinds.{kinds}
 use borrow.Author.Needs.{needs}
 use Rattle.records.proofs.ranges.record_ok.Statement.{statement}
 use Rattle.records.proofs.ranges.record_ok.Tie as tie

@@ -1,6 +1,6 @@
 -- `three_zeros` meets its contract: each return is the choice that its tests make.
 -- Assumes nothing.
-use Rattle.prelude.specs.Choice.{picks}
+use Rattle.prelude.specs.Laws.Choice.{picks}
 use Rattle.records.specs.Ranges.{threeZeros}
 use Rattle.records.proofs.ranges.three_zeros.Statement.{statement}
 use Rattle.records.proofs.ranges.three_zeros.Tie as tie

@@ -1,6 +1,6 @@
 -- `times_ok` meets its contract: each return is the choice that its tests make.
 -- Assumes nothing.
-use Rattle.prelude.specs.Choice.{picks}
+use Rattle.prelude.specs.Laws.Choice.{picks}
 use Rattle.records.specs.Ranges.{timesOk}
 use Rattle.records.proofs.ranges.times_ok.Statement.{statement}
 use Rattle.records.proofs.ranges.times_ok.Tie as tie

@@ -1,6 +1,6 @@
 -- `to_do_ok` meets its contract: each return is the choice that its tests make.
 -- Assumes nothing.
-use Rattle.prelude.specs.Choice.{picks}
+use Rattle.prelude.specs.Laws.Choice.{picks}
 use Rattle.records.specs.Ranges.{toDoOk}
 use borrow.Author.Needs.{needs}
 use Rattle.records.proofs.ranges.to_do_ok.Statement.{statement}

@@ -1,6 +1,6 @@
 -- `yearly_ok` meets its contract: each return is the choice that its tests make.
 -- Assumes nothing.
-use Rattle.prelude.specs.Choice.{by-yes, by-no}
+use Rattle.prelude.specs.Laws.Choice.{by-yes, by-no}
 use mathlib.Core.Path.{refl}
 use Rattle.records.specs.Ranges.{yearlyOk}
 use borrow.Author.Needs.{needs}

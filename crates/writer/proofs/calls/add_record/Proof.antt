@@ -5,12 +5,12 @@ use Prim.Native.Nat.{ℕ}
 use mathlib.Core.Path.{_≡_, refl, sym, _∙_, ap}
 use mathlib.Core.Bool.{false}
 use lib.ListN.{length}
-use Rattle.prelude.specs.Choice.{eq-yes, eq-no}
+use Rattle.prelude.specs.Laws.Choice.{eq-yes, eq-no}
 use Rattle.prelude.specs.Refusals.{refusal}
-use Rattle.records.specs.BodyLaws.{note-short}
-use Rattle.writer.specs.Writing.{gives, leaves, addRefusal, addGives, addLeaves}
+use Rattle.records.specs.Laws.Bodies.{note-short}
+use Rattle.writer.specs.Writing.{givesWhere, leavesWhere, addRefusal, addGives, addLeaves}
 use Rattle.writer.specs.Runs.{Item}
-use Rattle.writer.specs.CallLaws.{add-facts}
+use Rattle.writer.specs.Laws.Calls.{add-facts}
 use Rattle.writer.specs.declared.types.WriteAnswer.{WriteAnswer}
 use borrow.Author.Needs.{needs}
 use Rattle.writer.proofs.calls.add_record.Statement.{statement}
@@ -37,7 +37,7 @@ same-length : tie.Need-same-length
 same-length c = search needs
 
 returns : tie.Need-returns
-unfolding addGives addLeaves gives leaves
+unfolding addGives addLeaves givesWhere leavesWhere
 returns c =
     let l = c .before .before in
     let t = l .before .before in (
@@ -46,7 +46,7 @@ returns c =
     )
 
 returns-2 : tie.Need-returns-2
-unfolding addGives addLeaves gives leaves
+unfolding addGives addLeaves givesWhere leavesWhere
 returns-2 c =
     let e = c .before .add-refusal .ensures in (
       eq-no _ _ _ (λ q. c .if1 .left (e ∙ q)) (ap (λ (n : ℕ). WriteAnswer.Refused (refusal n) (c .before .before .before .before .before .args .w)) e),

@@ -5,10 +5,10 @@ use Prim.Native.Nat.{ℕ}
 use mathlib.Core.Path.{_≡_, refl, sym, _∙_, ap}
 use mathlib.Core.Bool.{true}
 use lib.ListN.{length}
-use Rattle.prelude.specs.Choice.{eq-yes, eq-no}
+use Rattle.prelude.specs.Laws.Choice.{eq-yes, eq-no}
 use Rattle.prelude.specs.Refusals.{refusal}
-use Rattle.writer.specs.Writing.{gives, leaves, closeRefusal, closeGives, closeLeaves}
-use Rattle.writer.specs.CallLaws.{close-facts}
+use Rattle.writer.specs.Writing.{givesWhere, leavesWhere, closeRefusal, closeGives, closeLeaves}
+use Rattle.writer.specs.Laws.Calls.{close-facts}
 use Rattle.writer.specs.declared.types.WriteAnswer.{WriteAnswer}
 use borrow.Author.Needs.{needs}
 use Rattle.writer.proofs.calls.close_book.Statement.{statement}
@@ -31,7 +31,7 @@ same-length : tie.Need-same-length
 same-length c = search needs
 
 returns : tie.Need-returns
-unfolding closeGives closeLeaves gives leaves
+unfolding closeGives closeLeaves givesWhere leavesWhere
 returns c =
     let l = c .before .before in
     let t = l .before .before .before in (
@@ -40,7 +40,7 @@ returns c =
     )
 
 returns-2 : tie.Need-returns-2
-unfolding closeGives closeLeaves gives leaves
+unfolding closeGives closeLeaves givesWhere leavesWhere
 returns-2 c =
     let e = c .before .close-refusal .ensures in (
       eq-no _ _ _ (λ q. c .if1 .left (e ∙ q)) (ap (λ (n : ℕ). WriteAnswer.Refused (refusal n) (c .before .before .before .args .w)) e),

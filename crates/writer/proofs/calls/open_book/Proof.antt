@@ -6,11 +6,11 @@ use mathlib.Core.Path.{_≡_, refl, sym, _∙_, ap}
 use mathlib.Core.Bool.{false}
 use mathlib.Core.List.{List}
 use lib.ListN.{length}
-use Rattle.prelude.specs.Choice.{eq-yes, eq-no}
+use Rattle.prelude.specs.Laws.Choice.{eq-yes, eq-no}
 use Rattle.prelude.specs.Refusals.{refusal}
 use Rattle.prelude.specs.Splice.{splice}
-use Rattle.writer.specs.Writing.{gives, leaves, openRefusal, openGives, openLeaves}
-use Rattle.writer.specs.CallLaws.{length-open, open-facts, settings-lead}
+use Rattle.writer.specs.Writing.{givesWhere, leavesWhere, openRefusal, openGives, openLeaves}
+use Rattle.writer.specs.Laws.Calls.{length-open, open-facts, settings-lead}
 use Rattle.writer.specs.declared.types.WriteAnswer.{WriteAnswer}
 use borrow.Author.Needs.{needs}
 use Rattle.writer.proofs.calls.open_book.Statement.{statement}
@@ -39,7 +39,7 @@ same-length : tie.Need-same-length
 same-length c = search needs
 
 returns : tie.Need-returns
-unfolding openGives openLeaves gives leaves
+unfolding openGives openLeaves givesWhere leavesWhere
 returns c =
     let l = c .before .before in
     let b = l .before in
@@ -49,7 +49,7 @@ returns c =
     )
 
 returns-2 : tie.Need-returns-2
-unfolding openGives openLeaves gives leaves
+unfolding openGives openLeaves givesWhere leavesWhere
 returns-2 c =
     let e = c .before .open-refusal .ensures in (
       eq-no _ _ _ (λ q. c .if1 .left (e ∙ q)) (ap (λ (n : ℕ). WriteAnswer.Refused (refusal n) (record { used = 0; closed = false })) e),

@@ -1,6 +1,6 @@
 -- `add_refusal` meets its contract: each return is the choice that its tests make.
 -- Assumes nothing.
-use Rattle.prelude.specs.Choice.{picks}
+use Rattle.prelude.specs.Laws.Choice.{picks}
 use Rattle.writer.specs.Writing.{addRefusal}
 use borrow.Author.Needs.{needs}
 use Rattle.writer.proofs.deciding.add_refusal.Statement.{statement}

@@ -1,7 +1,7 @@
 -- `close_refusal` meets its contract: each return is the choice that its tests make.
 -- Assumes nothing.
 use native.Mathlib.Nat.{add-zero}
-use Rattle.prelude.specs.Choice.{by-yes, by-no}
+use Rattle.prelude.specs.Laws.Choice.{by-yes, by-no}
 use mathlib.Core.Path.{refl}
 use Rattle.writer.specs.Writing.{closeRefusal}
 use borrow.Author.Needs.{needs}

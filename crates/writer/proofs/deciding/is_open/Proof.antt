@@ -1,6 +1,6 @@
 -- `is_open` meets its contract: each return is the choice that its tests make.
 -- Assumes nothing.
-use Rattle.prelude.specs.Choice.{picks}
+use Rattle.prelude.specs.Laws.Choice.{picks}
 use Rattle.writer.specs.Writing.{stateOpen}
 use Rattle.writer.proofs.deciding.is_open.Statement.{statement}
 use Rattle.writer.proofs.deciding.is_open.Tie as tie

@@ -1,6 +1,6 @@
 -- `longest_in` meets its contract: each return is the choice that its test makes.
 -- Assumes nothing.
-use Rattle.prelude.specs.Choice.{picks}
+use Rattle.prelude.specs.Laws.Choice.{picks}
 use Rattle.writer.proofs.deciding.longest_in.Statement.{statement}
 use Rattle.writer.proofs.deciding.longest_in.Tie as tie
 

@@ -3,7 +3,8 @@
 use native.Mathlib.Omega.{arith}
 use mathlib.Core.Path.{_≡_, refl}
 use Prim.Native.Nat.{ℕ, _+_, _<_, _≤_}
-use Rattle.prelude.specs.Choice.{ifLt, lt-elim, lt-yes, lt-no}
+use Rattle.prelude.specs.Choice.{ifLt}
+use Rattle.prelude.specs.Laws.Choice.{lt-elim, lt-yes, lt-no}
 use Rattle.prelude.specs.Refusals.{noRoom}
 use Rattle.writer.specs.Writing.{roomRefusal}
 use borrow.Author.Needs.{needs}

@@ -4,10 +4,10 @@ use native.Mathlib.Omega.{arith}
 use Prim.Native.Nat.{ℕ, _+_, _≤_}
 use mathlib.Core.Path.{refl, sym, _∙_, ap}
 use lib.ListN.{length}
-use Rattle.prelude.specs.Choice.{by-yes, by-no}
+use Rattle.prelude.specs.Laws.Choice.{by-yes, by-no}
 use Rattle.records.specs.Encoding.{typeOf}
-use Rattle.records.specs.JudgeLaws.{fixed-range}
-use Rattle.records.specs.BodyLaws.{note-short, length-encoded}
+use Rattle.records.specs.Laws.Judged.{fixed-range}
+use Rattle.records.specs.Laws.Bodies.{note-short, length-encoded}
 use Rattle.writer.specs.Writing.{roomRefusal}
 use borrow.Author.Needs.{needs}
 use Rattle.writer.proofs.deciding.texts_refusal.Statement.{statement}

@@ -4,7 +4,7 @@ use Rattle.prelude.specs.Choice.{ifEq}
 use Rattle.prelude.specs.Bytes.{le16, be16}
 use Rattle.records.specs.Fields.{fixedOf}
 use Rattle.records.specs.Encoding.{dateBytes, fixedBytes, typeOf}
-use Rattle.writer.specs.Heads.{headBytes}
+use Rattle.writer.specs.Heads.{recordHead}
 use borrow.Author.Needs.{needs}
 use Rattle.writer.proofs.heads.dated_head.Statement.{statement}
 use Rattle.writer.proofs.heads.dated_head.Tie as tie
@@ -58,7 +58,7 @@ high-requires-4 : tie.Need-high-requires-4
 high-requires-4 c κs = search needs
 
 returns : tie.Need-returns
-unfolding headBytes typeOf fixedOf ifEq fixedBytes dateBytes le16 be16
+unfolding recordHead typeOf fixedOf ifEq fixedBytes dateBytes le16 be16
 returns c = cc
 
 pub dated-head-spec : {M : Type 1} → statement M

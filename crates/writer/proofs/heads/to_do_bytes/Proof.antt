@@ -3,7 +3,7 @@
 use native.Mathlib.Omega.{arith}
 use Rattle.prelude.specs.Bytes.{le16}
 use Rattle.records.specs.Encoding.{dateBytes}
-use Rattle.records.specs.BodyLaws.{state-byte}
+use Rattle.records.specs.Laws.Bodies.{state-byte}
 use borrow.Author.Needs.{needs}
 use Rattle.writer.proofs.heads.to_do_bytes.Statement.{statement}
 use Rattle.writer.proofs.heads.to_do_bytes.Tie as tie

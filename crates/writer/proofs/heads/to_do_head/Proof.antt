@@ -2,8 +2,8 @@
 -- Assumes nothing.
 use native.Mathlib.Omega.{arith}
 use mathlib.Core.Path.{_∙_}
-use Rattle.records.specs.RangeLaws.{ThreeBytes}
-use Rattle.writer.specs.Heads.{to-do-not, to-do-on}
+use Rattle.records.specs.Invariants.{ThreeBytes}
+use Rattle.writer.specs.Laws.Heads.{to-do-not, to-do-on}
 use borrow.Author.Needs.{needs}
 use Rattle.writer.proofs.heads.to_do_head.Statement.{statement}
 use Rattle.writer.proofs.heads.to_do_head.Tie as tie

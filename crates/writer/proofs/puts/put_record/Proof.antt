@@ -3,9 +3,9 @@
 use mathlib.Core.Path.{_≡_, refl, sym, _∙_, ap}
 use mathlib.Core.Bool.{true}
 use Rattle.records.specs.Ranges.{recordOk}
-use Rattle.records.specs.RangeLaws.{Facts, facts}
+use Rattle.records.specs.Laws.Ranges.{Facts, record-facts}
 use Rattle.records.specs.declared.types.Record.{Record}
-use Rattle.writer.specs.Heads.{dated-fit, repeat-fit, to-do-fit, day-fit, weekly-head, by-date-head, by-position-head, yearly-head, head-room, head-put}
+use Rattle.writer.specs.Laws.Heads.{dated-fit, repeat-fit, to-do-fit, day-fit, weekly-head, by-date-head, by-position-head, yearly-head, head-room, head-put}
 use borrow.Author.Needs.{needs}
 use native.Mathlib.Omega.{arith}
 use Rattle.writer.proofs.puts.put_record.Statement.{statement}
@@ -13,7 +13,7 @@ use Rattle.writer.proofs.puts.put_record.Tie as tie
 
 -- the facts of a kind, from the judge of the record
 of : {r k : Record} → r ≡ k → recordOk r ≡ true → Facts k
-of {r} {k} e h = facts k (ap recordOk (sym e) ∙ h)
+of {r} {k} e h = record-facts k (ap recordOk (sym e) ∙ h)
 
 enum-known-r : tie.Need-enum-known-r
 enum-known-r c = search needs

@@ -4,7 +4,7 @@ use native.Mathlib.Omega.{arith}
 use Prim.Native.Nat.{_+_, _≤_}
 use lib.ListN.{length, length-append}
 use mathlib.Core.List.{_++_, append-assoc}
-use Rattle.prelude.specs.Splice.{splice-then}
+use Rattle.prelude.specs.Laws.Splice.{splice-then}
 use borrow.Author.Needs.{needs}
 use Rattle.writer.proofs.puts.put_three.Statement.{statement}
 use Rattle.writer.proofs.puts.put_three.Tie as tie

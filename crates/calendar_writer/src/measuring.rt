@@ -1,0 +1,71 @@
+// The measure of an export, from the sums of its days: all that is decided before the first byte is written.
+ghost use mathlib.Core.Path.{_≡_};
+ghost use mathlib.Core.Bool.{true, false};
+ghost use Prim.Native.Nat.{_≤_};
+ghost use lib.ListN.{length};
+ghost use Rattle.prelude.specs.Choice.{ifLt};
+ghost use Rattle.calendar.specs.File.{firstUnit};
+ghost use Rattle.calendar_writer.specs.Sums.{unitsFor, measured, sumUp};
+use crate::types::Measure;
+
+// The units of a day's block.
+pub fn units_for(sum: u64) -> usize
+    ensures { λ r. ⌜ r ≡ unitsFor sum ⌝ }
+{
+    ((sum % 65536 + 73) / 64) as usize
+}
+
+// The unit at which the first block stands behind n descriptors.
+pub fn first_unit(n: usize) -> usize
+    requires { ⌜ n ≤ 366 ⌝ }
+    ensures { λ r. ⌜ r ≡ firstUnit n ⌝ }
+{
+    1 + (12 * n + 63) / 64
+}
+
+fn is_past_last(unit: usize) -> bool
+    ensures { λ r. ⌜ r ≡ ifLt 32767 unit true false ⌝ }
+{
+    if 32767 < unit {
+        return true;
+    }
+    false
+}
+
+fn measure_of(n: usize, units: usize, last: usize, appointments: usize) -> Measure
+    requires { ⌜ n ≤ 366 ⌝ }
+    requires { ⌜ units ≤ 375150 ⌝ }
+    requires { ⌜ last ≤ units ⌝ }
+    ensures { λ r. ⌜ r ≡ measured n units last appointments ⌝ }
+{
+    let first = first_unit(n);
+    Measure {
+        length: 64 * (first + units),
+        descriptors: n,
+        appointments,
+        past_last_block: is_past_last(first + last),
+    }
+}
+
+// The file's length, its descriptors and its appointments, and whether a block would start at block 32,768 or later.
+pub fn measure(sums: &[u64]) -> Measure
+    requires { ⌜ length (now sums) ≤ 366 ⌝ }
+    ensures { λ r. ⌜ r ≡ sumUp 0 0 0 0 (now (sums .entry)) ⌝ }
+{
+    let mut n: usize = 0;
+    let mut units: usize = 0;
+    let mut last: usize = 0;
+    let mut appointments: usize = 0;
+    let mut k: usize = 0;
+    while k < sums.len() {
+        let sum = sums[k];
+        k += 1;
+        if sum != 0 {
+            n += 1;
+            last = units;
+            units += units_for(sum);
+            appointments += (sum / 4294967296) as usize;
+        }
+    }
+    measure_of(n, units, last, appointments)
+}

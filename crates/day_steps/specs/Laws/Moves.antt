@@ -1,0 +1,79 @@
+-- Laws of moving a day's facts on: to a later day of its month, and to a date.
+-- Assumes nothing.
+use Prim.Native.Nat.{ℕ, _+_, _%_, _<_, _≤_}
+use mathlib.Core.Path.{_≡_, refl, sym, _∙_, ap}
+use native.Mathlib.Omega.{arith}
+use Rattle.days.specs.Days.{lastDay, dateOf, weekdayOf, dayNumber}
+use Rattle.days.specs.Facts.{factsWith, factsOf}
+use Rattle.days.specs.Dates.{RealDate}
+use Rattle.days.specs.Laws.Days.{date-number, number-bound}
+use Rattle.days.specs.declared.types.Date.{Date}
+use Rattle.days.specs.declared.types.DayFacts.{DayFacts}
+use Rattle.day_steps.specs.Codes.{dateCode, Known}
+use Rattle.day_steps.specs.Laws.Codes.{facts-known}
+use Rattle.day_steps.specs.Laws.Months.{Later, in-month, in-length, weekday-later, code-less}
+use Rattle.day_steps.specs.Moves.{FactsAt, Reaches}
+
+-- the day of a day's facts
+pub day-at : (n : ℕ) → factsOf n .day .0 ≡ n
+unfolding factsOf
+day-at n = refl
+
+pub day-is : {g : DayFacts} {n : ℕ} → g ≡ factsOf n → g .day .0 ≡ n
+day-is {g} {n} e = ap (λ (x : DayFacts). x .day .0) e ∙ day-at n
+
+pub at-day : {g : DayFacts} (n : ℕ) {m : ℕ} → g ≡ factsOf n → m ≤ lastDay → FactsAt g m
+at-day n e h = record { facts = e ∙ ap factsOf (sym (day-is e)); high = h }
+
+-- such facts have room in a code, and their day lies in its month
+pub at-known : {f : DayFacts} {n : ℕ} → FactsAt f n → f .day .0 ≤ n → Known f
+at-known {f} {n} a l = let h = a .high in rw (sym (a .facts)) at (facts-known (f .day .0) (omega arith))
+
+pub at-inside : {f : DayFacts} {n : ℕ} → FactsAt f n → f .day .0 ≤ n → f .date .day ≤ f .length
+at-inside {f} {n} a l = let h = a .high in rw (sym (a .facts)) at (in-length (f .day .0) (omega arith))
+
+-- k days on in the same month
+abbrev pub onBy : ℕ → DayFacts → DayFacts
+onBy k f =
+    record {
+      day = record { 0 = f .day .0 + k };
+      date = record { year = f .date .year; month = f .date .month; day = f .date .day + k };
+      weekday = (f .weekday + 6 + k) % 7 + 1;
+      length = f .length;
+    }
+
+alike : {f g : DayFacts} → f .day .0 ≡ g .day .0 → f .date .year ≡ g .date .year → f .date .month ≡ g .date .month → f .date .day ≡ g .date .day → f .weekday ≡ g .weekday → f .length ≡ g .length → f ≡ g
+alike n y m d w l = λ i. record { day = record { 0 = n i }; date = record { year = y i; month = m i; day = d i }; weekday = w i; length = l i }
+
+pub facts-by : (n k : ℕ) → factsOf n .date .day + k ≤ factsOf n .length → onBy k (factsOf n) ≡ factsOf (n + k)
+facts-by n k h =
+    let l : Later (factsOf n) (factsOf (n + k)) k = in-month n k h in
+    alike (ap (λ (m : ℕ). m + k) (day-at n) ∙ sym (day-at (n + k))) (sym (l .year)) (sym (l .month)) (sym (l .day)) (sym (weekday-later n k)) (sym (l .length))
+
+pub on-by : {f : DayFacts} (k : ℕ) → f ≡ factsOf (f .day .0) → f .date .day + k ≤ f .length → onBy k f ≡ factsOf (f .day .0 + k)
+on-by {f} k e h =
+    let d = ap (λ (x : DayFacts). x .date .day) e in
+    let l = ap (λ (x : DayFacts). x .length) e in
+    ap (onBy k) e ∙ facts-by (f .day .0) k (omega arith)
+
+-- the facts of a real date's day
+pub facts-on : {d : Date} {n : ℕ} → RealDate d → dayNumber d ≡ n → factsWith n d (weekdayOf n) ≡ factsOf n
+unfolding factsOf
+facts-on {d} {n} v e =
+    ap (λ (x : Date). factsWith n x (weekdayOf n)) (sym (ap dateOf (sym e) ∙ date-number v))
+
+date-on : {d : Date} {n : ℕ} → RealDate d → dayNumber d ≡ n → factsOf n .date ≡ d
+date-on v e = ap (λ (x : DayFacts). x .date) (sym (facts-on v e))
+
+pub reaches-day : {f g : DayFacts} {d : Date} {n : ℕ} → RealDate d → dayNumber d ≡ n → f .day .0 < n → g ≡ factsOf n → Reaches f (dateCode d) g
+reaches-day {f} {g} {d} {n} v e l q =
+    let b = number-bound v in
+    let e′ : g .day .0 ≡ n = day-is q in
+    record {
+      at = at-day n q (omega arith);
+      low = omega arith;
+      before = λ m h i. rw (ap dateCode (date-on v e)) at (code-less m n (omega arith) (omega arith));
+    }
+
+pub reaches-most : {f g : DayFacts} {a b : ℕ} → a ≤ b → Reaches f a g → Reaches f b g
+reaches-most h r = record { at = r .at; low = r .low; before = λ d l m. omega (arith, r .before d l m) }

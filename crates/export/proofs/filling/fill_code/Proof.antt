@@ -1,0 +1,141 @@
+-- `fill_code` meets its contract: the piece is the record's appointment, and its rule shows where the record does.
+-- Assumes nothing.
+use Prim.Native.Nat.{ℕ, _+_, _≤_}
+use mathlib.Core.Path.{_≡_, sym, ap, _∙_}
+use mathlib.Core.List.{List}
+use native.Mathlib.Omega.{arith}
+use lib.ListN.{length, getD, take, drop, length-take}
+use lib.Seq.{length-take-le}
+use Rattle.prelude.specs.Bytes.{bit, part}
+use Rattle.prelude.specs.Laws.Splice.{take-splice}
+use Rattle.falls.specs.declared.types.ShortMonth.{ShortMonth}
+use Rattle.pages.specs.Pages.{pageLineOf}
+use Rattle.pages.specs.Codes.{decode}
+use Rattle.pages.specs.declared.types.Line.{Line}
+use Rattle.calendar.specs.File.{Appointment, appointmentBytes}
+use Rattle.export.specs.Export.{specialTime, appointmentOf}
+use Rattle.calendar.specs.Laws.File.{length-appointment}
+use Rattle.occurrences.specs.Rules.{ruleShows}
+use Rattle.occurrences.specs.declared.types.Rule.{Rule}
+use Rattle.calendar_writer.specs.Scatter.{Added, scatter}
+use Rattle.export.specs.Passes.{marked}
+use borrow.Author.Needs.{needs}
+use Rattle.export.proofs.filling.fill_code.Statement.{statement}
+use Rattle.export.proofs.filling.fill_code.Tie as tie
+
+-- the appointment that is put, which is the record's
+abbrev piece : tie.After-part → Appointment
+piece c = record { minute = c .before .before .line-of .result .start .0; flags = c .before .flags-of .result; text = c .part .result .now }
+
+abbrev whole : tie.Start → Appointment
+whole s = appointmentOf (s .args .file .now) (s .args .interval) (decode (s .args .file .now) (s .args .code))
+
+abbrev begin : tie.After-part → tie.Start
+begin c = c .before .before .before .before .before .before .before
+
+same-appointment : {m n g h : ℕ} {t u : List ℕ} → m ≡ n → g ≡ h → t ≡ u → _≡_ {A = Appointment} (record { minute = m; flags = g; text = t }) (record { minute = n; flags = h; text = u })
+same-appointment p q r = λ i. record { minute = p i; flags = q i; text = r i }
+
+made : (c : tie.After-part) → piece c ≡ whole (begin c)
+unfolding appointmentOf pageLineOf
+made c =
+    let a = begin c .args in
+    let e = c .before .before .line-of .ensures in
+    same-appointment (ap (λ (l : Line). l .start .0) e) (c .before .flags-of .ensures ∙ ap (λ (l : Line). bit (l .alarm) + specialTime (a .interval) (l .start .0)) e) (c .part .ensures ∙ ap (λ (l : Line). part (a .file .now) (l .text .place) (l .text .length)) e)
+
+short : (c : tie.After-part) → length (c .part .result .now) ≤ 27
+unfolding pageLineOf decode
+short c =
+    let l = c .before .before .line-of .result in
+    let n : l .text .length ≤ 27 = rw (c .before .before .line-of .ensures) (begin c .pre .1 .0 .short) in
+    omega (arith, ap length (c .part .ensures), length-take (l .text .length) (drop (l .text .place) (begin c .args .file .now)), n)
+
+-- what is lent of the piece
+lent : (c : tie.After-put-appointment) → take (c .put-appointment .result) (c .put-appointment .last .0) ≡ appointmentBytes (whole (begin (c .before .before)))
+lent c =
+    let o = c .before .piece .given in
+    let xs = appointmentBytes (piece (c .before .before)) in
+    rw (c .put-appointment .ensures .0, c .put-appointment .ensures .1) (take-splice _ 0 xs (omega arith)) ∙ ap appointmentBytes (made (c .before .before))
+
+fits : (c : tie.After-put-appointment) → c .put-appointment .result ≤ length (c .put-appointment .last .0)
+fits c = omega (arith, c .put-appointment .ensures .0, length-appointment (piece (c .before .before)), short (c .before .before))
+
+-- a rule shows where its record does
+rule-marks : (c : tie.After-rule-at) → let a = begin (c .before .before .before .before) .args in (k : ℕ) → ruleShows (a .c) (c .rule-at .result) (getD (a .days .now) k 0) ≡ marked (a .c) (a .days .now) k (decode (a .file .now) (a .code))
+unfolding decode
+rule-marks c k =
+    let a = begin (c .before .before .before .before) .args in
+    ap (λ (r : Rule). ruleShows (a .c) r (getD (a .days .now) k 0)) (c .rule-at .ensures)
+
+-- the same of an equal rule and an equal piece
+moved : {r s : Rule} {xs ys : List ℕ} (c : ShortMonth) (days : List ℕ) {n : ℕ} {old new : List ℕ} → r ≡ s → xs ≡ ys → Added (λ k. ruleShows c r (getD days k 0)) (length xs) n old new → Added (λ k. ruleShows c s (getD days k 0)) (length ys) n old new
+moved c days e q a = rw (e, q) at a
+
+spread : {r s : Rule} {xs ys : List ℕ} (c : ShortMonth) (days : List ℕ) (n : ℕ) (places out : List ℕ) → r ≡ s → xs ≡ ys → scatter n (λ k. ruleShows c r (getD days k 0)) xs places 0 out ≡ scatter n (λ k. ruleShows c s (getD days k 0)) ys places 0 out
+spread c days n places out e q = rw (e, q)
+
+line-of-requires : tie.Need-line-of-requires
+line-of-requires c κs = search needs
+
+flags-of-requires : tie.Need-flags-of-requires
+flags-of-requires c κs = search needs
+
+part-requires : tie.Need-part-requires
+part-requires c κs = search needs
+
+slice-aggregate-put-appointment : tie.Need-slice-aggregate-put-appointment
+slice-aggregate-put-appointment c = search needs
+
+put-appointment-requires : tie.Need-put-appointment-requires
+put-appointment-requires c κs =
+    let t = short (c .before) in
+    (t, omega (arith, t, length-appointment (piece (c .before))))
+
+rule-at-requires : tie.Need-rule-at-requires
+rule-at-requires c κs = search needs
+
+array-share-prefix-piece : tie.Need-array-share-prefix-piece
+array-share-prefix-piece c = fits (c .before .before)
+
+slice-aggregate-put-hits : tie.Need-slice-aggregate-put-hits
+slice-aggregate-put-hits c = sym (length-take-le _ _ (fits (c .before .before .before)))
+
+put-hits-requires : tie.Need-put-hits-requires
+put-hits-requires c κs =
+    let r = c .before .before .before in
+    let s = begin (r .before .before .before .before) in
+    let p = s .pre .1 .1 in
+    (p .0, (p .1 .0, record { each = λ k l h. rw (lent (r .before .before)) (p .1 .1 .each k l (sym (rule-marks r k) ∙ h)) }))
+
+same-length : tie.Need-same-length
+same-length c = search needs
+
+same-length-2 : tie.Need-same-length-2
+same-length-2 c = search needs
+
+returns : tie.Need-returns
+unfolding decode
+returns c =
+    let h = c .before .before .before .before in
+    let r = h .before .before .before .before in
+    let a = begin (r .before .before .before .before) .args in
+    let e = r .rule-at .ensures in
+    let q = lent (r .before .before) in
+    (moved (a .c) (a .days .now) e q (h .put-hits .ensures .0), h .put-hits .ensures .1 ∙ spread (a .c) (a .days .now) (length (a .days .now)) (a .places .now) (a .out .now) e q)
+
+pub fill-code-spec : {M : Type 1} → statement M
+fill-code-spec =
+    tie.close
+    (tie.spec
+    line-of-requires
+    flags-of-requires
+    part-requires
+    slice-aggregate-put-appointment
+    put-appointment-requires
+    rule-at-requires
+    array-share-prefix-piece
+    slice-aggregate-put-hits
+    put-hits-requires
+    same-length
+    same-length-2
+    returns)

@@ -1,0 +1,48 @@
+-- What the export knows of an accepted book: what it takes of each record; and of a book collected and ordered, ready to be filled in.
+-- Assumes nothing.
+use Prim.Native.Nat.{ℕ, _+_, _≤_}
+use mathlib.Core.Path.{_≡_}
+use mathlib.Core.Bool.{true}
+use mathlib.Core.List.{List, List·Memᴰ, map}
+use lib.ListN.{length}
+use Rattle.sorting.specs.Totals.{total}
+use Rattle.sorting.specs.Keep.{keep}
+use Rattle.day_steps.specs.Codes.{Spanned}
+use Rattle.texts.specs.Notes.{noZero}
+use Rattle.falls.specs.declared.types.ShortMonth.{ShortMonth}
+use Rattle.pages.specs.Pages.{Numbered, numbered, startOf, pageOf}
+use Rattle.pages.specs.Codes.{code}
+use Rattle.export.specs.Export.{recordText}
+use Rattle.export.specs.Passes.{CountedBook, keptIn, Weighed}
+
+-- what the export takes of a record
+pub record GoodRecord (f : List ℕ) (x : Numbered) : Type 0 where
+  pub minute : startOf x ≤ 1439
+  pub short : length (recordText f x) ≤ 27
+  pub clean : noZero (recordText f x) ≡ true
+
+-- the bytes of a record as an appointment
+abbrev pub sizeOf : List ℕ → Numbered → ℕ
+sizeOf f x = 5 + length (recordText f x)
+
+-- the records of an accepted book
+pub record GoodBook (f : List ℕ) : Type 0 where
+  pub each : (x : Numbered) → List·Memᴰ x (numbered f) → GoodRecord f x
+  pub sum : total (sizeOf f) (numbered f) ≤ 65535
+
+pub record ReadyToFill (f : List ℕ) (c : ShortMonth) (first : ℕ) (days sums codes : List ℕ) : Type 0 where
+  pub records : ℕ
+  pub counted : CountedBook f records
+  pub good : GoodBook f
+  pub span : Spanned first days
+  pub weighed : Weighed f c days sums
+  pub kept : codes ≡ map code (pageOf (keptIn c days) f)
+
+-- the same before the records are ordered
+pub record Gathered (f : List ℕ) (c : ShortMonth) (first : ℕ) (days sums codes : List ℕ) : Type 0 where
+  pub records : ℕ
+  pub counted : CountedBook f records
+  pub good : GoodBook f
+  pub span : Spanned first days
+  pub weighed : Weighed f c days sums
+  pub kept : codes ≡ map code (keep (keptIn c days) (numbered f))

@@ -1,0 +1,137 @@
+// One pass over the book: the records that show on a day of the span, as codes, and the sum of each day.
+ghost use mathlib.Core.Path.{_≡_};
+ghost use mathlib.Core.List.{map};
+ghost use Prim.Native.Nat.{_+_, _*_, _<_, _≤_};
+ghost use lib.ListN.{length, getD, take};
+ghost use Rattle.prelude.specs.Bytes.{bit};
+ghost use Rattle.sorting.specs.Keep.{keep};
+ghost use Rattle.book.specs.Books.{entryAt};
+ghost use Rattle.pages.specs.Pages.{numbered};
+ghost use Rattle.pages.specs.Invariants.{recordAt};
+ghost use Rattle.pages.specs.Codes.{code};
+ghost use Rattle.day_steps.specs.Codes.{Spanned, Days};
+ghost use Rattle.occurrences.specs.Rules.{ruleOf, ruleShows};
+ghost use Rattle.occurrences.specs.Next.{Next};
+ghost use Rattle.calendar_writer.specs.Scatter.{Added};
+ghost use Rattle.export.specs.Passes.{AtMost, CountedBook, Sound, keptIn, weighs, Weighed};
+use book::entries::next_place;
+use falls::types::ShortMonth;
+use occurrences::hits::next_after;
+use occurrences::hits::next_from;
+use occurrences::hits::on_to;
+use occurrences::reading::rule_of;
+use occurrences::types::Rule;
+use pages::collecting::code_of;
+use pages::collecting::times_at;
+use pages::ordering::text_of;
+use prelude::slices::byte;
+use prelude::slices::part;
+use prelude::slices::word;
+
+// The rule of the record at a place.
+pub fn rule_at(file: &[u8], at: usize) -> Rule
+    requires { ⌜ at ≤ 65535 ⌝ }
+    ensures { λ r. ⌜ r ≡ ruleOf (entryAt (now (file .entry)) at .«record») ⌝ }
+{
+    let t = byte(file, at);
+    let l = word(file, at + 1) as usize;
+    let p = part(file, at + 3, l);
+    rule_of(t, p)
+}
+
+// One appointment of a text's length, with its alarm or without, as a sum.
+fn weight_of(alarm: bool, length: usize) -> u64
+    requires { ⌜ length ≤ 27 ⌝ }
+    ensures { λ r. ⌜ r ≡ 4294967296 + bit alarm * 65536 + (5 + length) ⌝ }
+{
+    if alarm {
+        return 4295032832 + (5 + length as u64);
+    }
+    4294967296 + (5 + length as u64)
+}
+
+// Adds a weight to the sum of each day on which a rule shows; from is the first of them.
+fn add_hits(c: ShortMonth, r: Rule, days: &[u32], from: usize, w: u64, sums: &mut [u64])
+    requires { ⌜ Days (now days) ⌝ }
+    requires { ⌜ length (now sums) ≡ length (now days) ⌝ }
+    requires { ⌜ Next (λ k. ruleShows c r (getD (now days) k 0)) 0 (length (now days)) from ⌝ }
+    requires { ⌜ w ≤ 8589934592 ⌝ }
+    requires { ⌜ AtMost 40192304123904 (now sums) ⌝ }
+    ensures { λ _.
+        ⌜ Added (λ k. ruleShows c r (getD (now (days .entry)) k 0)) w (length (now (days .entry))) (now (sums .entry)) (now (sums .exit)) ⌝ }
+{
+    let mut j = from;
+    while j < days.len() {
+        let s = sums[j];
+        sums[j] = s + w;
+        j = next_after(c, r, days, j);
+    }
+}
+
+// Takes in a record that shows from a day on: its weight goes to its days, and its code comes back.
+fn take_in(
+    file: &[u8],
+    at: usize,
+    number: usize,
+    c: ShortMonth,
+    r: Rule,
+    days: &[u32],
+    from: usize,
+    sums: &mut [u64],
+) -> u64
+    requires { ⌜ Sound (now file) at ⌝ }
+    requires { ⌜ number < 65536 ⌝ }
+    requires { ⌜ r ≡ ruleOf (entryAt (now file) at .«record») ⌝ }
+    requires { ⌜ Days (now days) ⌝ }
+    requires { ⌜ length (now sums) ≡ length (now days) ⌝ }
+    requires { ⌜ Next (λ k. ruleShows c r (getD (now days) k 0)) 0 (length (now days)) from ⌝ }
+    requires { ⌜ AtMost 40192304123904 (now sums) ⌝ }
+    ensures { λ z. ⌜ z ≡ code (recordAt (now (file .entry)) number at) ⌝ }
+    ensures { λ _.
+        ⌜ Added (λ k. ruleShows c r (getD (now (days .entry)) k 0)) (weighs (recordAt (now (file .entry)) number at)) (length (now (days .entry))) (now (sums .entry)) (now (sums .exit)) ⌝ }
+{
+    let times = times_at(file, at);
+    let text = text_of(file, at);
+    let w = weight_of(times.alarm, text.length);
+    add_hits(c, r, days, from, w, sums);
+    code_of(times.start.0, number, at)
+}
+
+// The codes of the records that show on a day of the span from day `first` on, in the book's order, and the sums of its days, which were 0.
+pub fn collect(
+    file: &[u8],
+    records: usize,
+    c: ShortMonth,
+    first: usize,
+    days: &[u32],
+    codes: &mut [u64],
+    sums: &mut [u64],
+) -> usize
+    requires { ⌜ CountedBook (now file) records ⌝ }
+    requires { ⌜ Spanned first (now days) ⌝ }
+    requires { ⌜ records ≤ length (now codes) ⌝ }
+    requires { ⌜ length (now sums) ≡ length (now days) ⌝ }
+    requires { ⌜ AtMost 0 (now sums) ⌝ }
+    ensures { λ r. ⌜ r ≤ length (now (codes .entry)) ⌝ }
+    ensures { λ r.
+        ⌜ take r (now (codes .exit)) ≡ map code (keep (keptIn c (now (days .entry))) (numbered (now (file .entry)))) ⌝ }
+    ensures { λ _. ⌜ Weighed (now (file .entry)) c (now (days .entry)) (now (sums .exit)) ⌝ }
+{
+    let mut at: usize = 12;
+    let mut n: usize = 0;
+    let mut count: usize = 0;
+    while n < records {
+        let here = at;
+        let number = n;
+        at = next_place(file, here);
+        n += 1;
+        let r = rule_at(file, here);
+        let start = on_to(r.first, first, days);
+        let from = next_from(c, r, days, start);
+        if from < days.len() {
+            codes[count] = take_in(file, here, number, c, r, days, from, sums);
+            count += 1;
+        }
+    }
+    count
+}

@@ -1,0 +1,43 @@
+// All that an export decides before its first byte is written: the span's range, then the two sizes.
+ghost use mathlib.Core.Path.{_≡_};
+ghost use Rattle.prelude.specs.Refusals.{refusal};
+ghost use Rattle.export.specs.Export.{spanOk, sized};
+use crate::answers::ExportAnswer;
+use calendar_writer::types::Measure;
+use prelude::refusals::NO_ROOM;
+use prelude::refusals::Refusal;
+use prelude::refusals::TOO_MANY_BLOCKS;
+
+pub fn refused(number: u32) -> ExportAnswer
+    ensures { λ r. ⌜ r ≡ ExportAnswer.Refused (refusal number) ⌝ }
+{
+    ExportAnswer::Refused(Refusal { number, place: 0 })
+}
+
+pub fn span_ok(first: u16, count: u16) -> bool
+    ensures { λ r. ⌜ r ≡ spanOk first count ⌝ }
+{
+    if 43829 < first {
+        return false;
+    }
+    if 366 < count {
+        return false;
+    }
+    if 43830 < first + count {
+        return false;
+    }
+    true
+}
+
+// The answer for a file of that measure.
+pub fn answer_for(m: Measure, room: usize) -> ExportAnswer
+    ensures { λ r. ⌜ r ≡ sized room (m .«past_last_block») (m .length) ⌝ }
+{
+    if m.past_last_block {
+        return refused(TOO_MANY_BLOCKS);
+    }
+    if room < m.length {
+        return refused(NO_ROOM);
+    }
+    ExportAnswer::Written(m.length)
+}

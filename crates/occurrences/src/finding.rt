@@ -1,0 +1,57 @@
+// The next day of the calendar on which a rule shows.
+ghost use Prim.Native.Nat.{_+_};
+ghost use Rattle.days.specs.Days.{lastDay};
+ghost use Rattle.days.specs.Facts.{factsOf};
+ghost use Rattle.day_steps.specs.Codes.{dayCode};
+ghost use Rattle.day_steps.specs.Moves.{FactsAt, Reaches};
+ghost use Rattle.occurrences.specs.Next.{Next};
+ghost use Rattle.occurrences.specs.Rules.{ruleShows};
+use crate::asking::rule_shows;
+use crate::types::Rule;
+use crate::waiting::wait_for;
+use day_steps::moving::days_later;
+use day_steps::moving::to_date;
+use day_steps::packing::date_code;
+use day_steps::packing::day_code;
+use days::types::Date;
+use days::types::DayFacts;
+use falls::types::ShortMonth;
+
+// On to the rule's first date, where it is ahead.
+fn start_of(r: Rule, f: DayFacts) -> DayFacts
+    requires { ⌜ FactsAt f (f .day .0) ⌝ }
+    ensures { λ g. ⌜ Reaches f (r .first) g ⌝ }
+{
+    if date_code(f.date) < r.first {
+        let d = Date {
+            year: (r.first / 512 % 65536) as u16,
+            month: (r.first / 32 % 16) as u16,
+            day: (r.first % 32) as u16,
+        };
+        return to_date(f, d);
+    }
+    f
+}
+
+// The first such day from that of f on; 43,830 where there is none.
+pub fn next_shown(c: ShortMonth, r: Rule, f: DayFacts) -> u32
+    requires { ⌜ FactsAt f (f .day .0) ⌝ }
+    ensures { λ n. ⌜ Next (λ d. ruleShows c r (dayCode (factsOf d))) (f .day .0) (lastDay + 1) n ⌝ }
+{
+    let mut g = start_of(r, f);
+    loop {
+        let p = day_code(g);
+        if r.last < p / 256 {
+            return 43830;
+        }
+        if rule_shows(c, r, p) {
+            return g.day.0 as u32;
+        }
+        let wait = wait_for(r, p);
+        let ahead = 43829 - g.day.0 as u32;
+        if ahead < wait {
+            return 43830;
+        }
+        g = days_later(g, wait as u16);
+    }
+}

@@ -1,0 +1,98 @@
+-- How large a printed page can be: each record takes more bytes of its book than of a page, so that a page never passes 65,535.
+-- Assumes nothing.
+use Prim.Native.Nat.{ℕ, zero, suc, _+_, _*_, _<_, _≤_}
+use mathlib.Core.Path.{_≡_, _∙_}
+use mathlib.Core.Bool.{Bool}
+use mathlib.Core.List.{List, map}
+use native.Mathlib.Omega.{arith}
+use lib.ListN.{length, length-append, length-map, length-take, length-drop}
+use Rattle.prelude.specs.Bytes.{stretchBytes}
+use Rattle.prelude.specs.Laws.Choice.{bool-cases}
+use Rattle.sorting.specs.Keep.{keep}
+use Rattle.sorting.specs.Order.{sort}
+use Rattle.sorting.specs.Totals.{total}
+use Rattle.sorting.specs.Laws.Totals.{total-nil, total-cons, total-sort}
+use Rattle.digits.specs.Digits.{decimal}
+use Rattle.digits.specs.Laws.Decimal.{length-below}
+use Rattle.records.specs.Fields.{fixedOf, textLength, noteLength}
+use Rattle.records.specs.Laws.Judged.{Judged, body-judged, fixed-range}
+use Rattle.book.specs.Walk.{typeAt, bodyLengthAt, bodyAt, nextPlace}
+use Rattle.book.specs.Books.{placesOf, entryAt}
+use Rattle.book.specs.Invariants.{RecordAt}
+use Rattle.book.specs.Laws.Books.{Cursor, cursor-first, Ahead, cursor-ahead}
+use Rattle.falls.specs.declared.types.ShortMonth.{ShortMonth}
+use Rattle.pages.specs.Pages.{Numbered, numbered, startOf, pageOf, fallsOn, pageOn, pageLineOf}
+use Rattle.pages.specs.Invariants.{ReadyBook, recordAt}
+use Rattle.pages.specs.Laws.Pages.{numberedAt, numbered-first, Turn, record-turn, turn-yes, turn-no, turn-end, length-page}
+use Rattle.pages.specs.declared.types.Ready.{Ready}
+use Rattle.printing.specs.Printed.{headLine, pageLines, printed, pageText}
+use Rattle.printing.specs.Laws.Printed.{length-head, lineSize, line-size, length-lines}
+
+-- the size of a page by its records in the book's order
+pub page-bytes : (p : Numbered → Bool) (f : List ℕ) → length (pageLines f (map pageLineOf (pageOf p f))) ≡ total (lineSize f) (keep p (numbered f))
+unfolding pageOf
+page-bytes p f = length-lines f (sort startOf (keep p (numbered f))) ∙ total-sort (lineSize f) startOf (keep p (numbered f))
+
+pub page-size :
+    (f : List ℕ) (c : ShortMonth) (a : Ready)
+    → length (pageText f c (a .facts)) ≡ 16 + length (decimal (length (pageOn c (a .facts) f))) + length (pageLines f (map pageLineOf (pageOn c (a .facts) f)))
+unfolding pageText printed
+page-size f c a =
+    length-append (headLine (a .facts) (length (map pageLineOf (pageOn c (a .facts) f)))) (pageLines f (map pageLineOf (pageOn c (a .facts) f)))
+    ∙ rw (length-map (pageOn c (a .facts) f) pageLineOf, length-head (a .facts) (length (pageOn c (a .facts) f)))
+
+-- a record's bytes in its book, and on a page
+record Smaller (f : List ℕ) (n at : ℕ) : Type 0 where
+  less : lineSize f (recordAt f n at) < 3 + bodyLengthAt f at
+  most : lineSize f (recordAt f n at) ≤ 40
+
+smaller : (f : List ℕ) (n at : ℕ) → RecordAt f at → Smaller f n at
+unfolding entryAt
+smaller f n at r =
+    let t = typeAt f at in
+    let p = bodyAt f at in
+    let j : Judged t p = body-judged t p (r .fine) in
+    let l : length p ≤ bodyLengthAt f at = simp (length-take, length-drop) (omega arith) in
+    let s : length (stretchBytes f (entryAt f at .text)) ≤ textLength t p = simp (length-take, length-drop) (omega arith) in
+    let b : fixedOf t + textLength t p + noteLength t p ≤ length p = j .fits in
+    let m : textLength t p ≤ 27 = j .text-most in
+    let x = fixed-range t in
+    let e = line-size f (recordAt f n at) in
+    record { less = omega arith; most = omega arith }
+
+-- the records from a place on: together they are smaller than what is left of the book
+record Bounded (f : List ℕ) (at : ℕ) (xs : List Numbered) : Type 0 where
+  less : total (lineSize f) xs + length xs + at ≤ length f
+  most : total (lineSize f) xs ≤ 40 * length xs
+
+module _ (f : List ℕ) (p : Numbered → Bool) where
+  bounded : (k n at : ℕ) → Cursor f n at → n + k ≡ length (placesOf f) → Bounded f at (keep p (numberedAt f n))
+  bounded zero n at c e =
+      let h = c .here .high in
+      rw (turn-end f n p (omega arith)) (record { less = rw (total-nil (lineSize f)) (omega arith); most = rw (total-nil (lineSize f)) (omega arith) })
+  bounded (suc k) n at c e =
+      let h : n < length (placesOf f) = omega arith in
+      let a : Ahead f n at = cursor-ahead f n at c h in
+      let t : Turn f n at = record-turn f n at c h in
+      let s : Smaller f n at = smaller f n at (a .entry) in
+      let b : Bounded f (nextPlace f at) (keep p (numberedAt f (suc n))) = bounded k (suc n) (nextPlace f at) (a .next) (omega arith) in
+      let q = total-cons (lineSize f) (recordAt f n at) (keep p (numberedAt f (suc n))) in
+      bool-cases (p (recordAt f n at))
+      (λ y. rw (turn-yes f n at t p y) (record { less = omega arith; most = omega arith }))
+      (λ y. rw (turn-no f n at t p y) (record { less = omega arith; most = omega arith }))
+
+  -- all records of a book that pass
+  pub book-most : 12 ≤ length f → (total (lineSize f) (keep p (numbered f)) + length (keep p (numbered f)) + 12 ≤ length f) × (total (lineSize f) (keep p (numbered f)) ≤ 40 * length (keep p (numbered f)))
+  book-most h =
+      let b : Bounded f 12 (keep p (numberedAt f 0)) = bounded (length (placesOf f)) 0 12 (cursor-first f h) (omega arith) in
+      rw (numbered-first f) (b .less, b .most)
+
+-- "12" never happens with 65,535 bytes of room
+pub page-most : (f : List ℕ) (c : ShortMonth) (a : Ready) → ReadyBook f a → length (pageText f c (a .facts)) ≤ 65535
+page-most f c a r =
+    let p = fallsOn c (a .facts) in
+    let b = book-most f p (r .long) in
+    let l = length-page p f in
+    let s = page-bytes p f in
+    let d = length-below 4 (length (pageOn c (a .facts) f)) (omega arith) in
+    rw (page-size f c a) (omega arith)
