@@ -56,9 +56,18 @@ job_test() { #: test [TOPIC [WORDS]]           the tests against the reference, 
     cargo_in reference test --test "$topic" "$@"
 }
 
+# The layout of every cargo package.
+formatted() {
+    local package
+    for package in */Cargo.toml bindings/*/Cargo.toml; do
+        [ ! -e "$package" ] || cargo fmt --check --manifest-path "$package"
+    done
+}
+
 job_quick() { #: quick                          layout, proofs of what changed, and all tests; no edits: before a commit
     rt fmt --check
-    (cd reference && cargo fmt --check)
+    formatted
+    cargo_in tools test
     rt check
     all_tests
 }
@@ -85,6 +94,10 @@ job_fuzz() { #: fuzz SECONDS [SEED [calls]]    hostile inputs, a long run
     need_library
     need_programs
     cargo_in reference run --quiet --bin fuzz -- "$@"
+}
+
+job_graph() { #: graph [--check]                docs/imports.svg, after a change of crates.txt or of a `use` line
+    cargo_in tools run --quiet --bin imports -- "$@"
 }
 
 job_help() { #: help                           this list
