@@ -100,6 +100,10 @@ job_graph() { #: graph [--check]                docs/imports.svg, after a change
     cargo_in tools run --quiet --bin imports -- "$@"
 }
 
+job_definitions() { #: definitions [--check]          docs/DEFINITIONS.md, after a change in specs
+    cargo_in tools run --quiet --bin definitions -- "$@"
+}
+
 job_help() { #: help                           this list
     sed -n 's|^job_[a-z]*() { #: |./do |p' ./do
 }

@@ -37,7 +37,7 @@ pub fn current(path: &Path, text: &str) -> bool {
     fs::read(path).is_ok_and(|bytes| bytes == text.as_bytes())
 }
 
-/// What a program does with a file that it makes, by its words: write it, or with `--check` only look at it.
+/// What both programs do with a file that they make, by their words: write it, or with `--check` only look at it.
 pub fn keep(file: &str, made: Result<String, String>) -> Result<(), String> {
     let (path, text) = (top().join(file), made?);
     let words: Vec<String> = env::args().skip(1).collect();
