@@ -72,6 +72,10 @@ job_quick() { #: quick                          layout, proofs of what changed, 
     all_tests
 }
 
+job_edits() { #: edits [CRATE..]                the edits of mutations, each to be refused; all, or those of some crates
+    bash mutations/run "$@"
+}
+
 job_gate() { #: gate                           everything from nothing, edits too, some 30 minutes: before a merge
     bash .ci/run
 }
