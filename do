@@ -44,6 +44,7 @@ job_prove() { #: prove CRATE [--full | WORDS]   one crate, in seconds, by `rt de
 all_tests() {
     need_library
     need_programs
+    cargo_in bindings/rust test --no-fail-fast
     cargo_in reference test --no-fail-fast
 }
 

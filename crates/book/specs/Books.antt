@@ -16,6 +16,14 @@ use Rattle.book.specs.declared.types.BookAnswer.{BookAnswer}
 use Rattle.book.specs.declared.types.Entry.{Entry}
 use Rattle.book.specs.declared.types.RecordAnswer.{RecordAnswer}
 
+-- refusal 1: a book has at most 65,535 bytes
+abbrev pub mostBookBytes : ℕ
+mostBookBytes = 65535
+
+-- a record takes 14 bytes or more, so that no book has more of them
+abbrev pub mostRecords : ℕ
+mostRecords = 4680
+
 unfoldable pub accepted : Settings → ℕ → Verdict → BookAnswer
 accepted s n Verdict.Fine = BookAnswer.Accepted (record { settings = s; records = n })
 accepted s n (Verdict.Refused e) = BookAnswer.Refused e
@@ -28,7 +36,7 @@ counted f n (stopped e) = BookAnswer.Refused e
 
 unfoldable pub bookOf : List ℕ → BookAnswer
 bookOf f =
-    ifLt 65535 (length f) (BookAnswer.Refused (refusal bookTooLong))
+    ifLt mostBookBytes (length f) (BookAnswer.Refused (refusal bookTooLong))
     (ifB (bookIdentified f)
     (ifB (settingsOk f) (counted f 0 (walkOf f)) (BookAnswer.Refused (refusalAt badSettings 5)))
     (BookAnswer.Refused (refusal notABook)))

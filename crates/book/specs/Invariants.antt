@@ -7,8 +7,8 @@ use lib.ListN.{length}
 use mathlib.Core.Bool.{true}
 use Rattle.records.specs.Bodies.{judgeBody}
 use Rattle.book.specs.Walk.{typeAt, bodyLengthAt, bodyAt}
-use Rattle.book.specs.Settings.{bookIdentified, settingsOf, settingsOk}
-use Rattle.book.specs.Books.{placesOf}
+use Rattle.book.specs.Settings.{bookIdentified, settingsOf, settingsOk, firstRecord}
+use Rattle.book.specs.Books.{placesOf, mostBookBytes}
 use Rattle.book.specs.declared.types.Book.{Book}
 
 -- what a step to a next record says
@@ -20,9 +20,9 @@ pub record RecordAt (f : List ℕ) (at : ℕ) : Type 0 where
 
 -- what an accepted book is
 pub record AcceptedBook (f : List ℕ) (b : Book) : Type 0 where
-  pub size : length f ≤ 65535
+  pub size : length f ≤ mostBookBytes
   pub named : bookIdentified f ≡ true
-  pub long : 12 ≤ length f
+  pub long : firstRecord ≤ length f
   pub set : settingsOk f ≡ true
   pub settings : b .settings ≡ settingsOf f
   pub count : b .records ≡ length (placesOf f)

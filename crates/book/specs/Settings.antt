@@ -7,7 +7,17 @@ use lib.ListN.{length}
 use lib.Dec.{eqb}
 use Rattle.prelude.specs.Choice.{ifLt, ifEq, ifB}
 use Rattle.prelude.specs.Bytes.{byte, word}
+use Rattle.days.specs.Days.{lastMinute}
+use Rattle.records.specs.Ranges.{mostLead}
 use Rattle.book.specs.declared.types.Settings.{Settings}
+
+-- "granularity 1..720 (house)"
+abbrev pub mostGranularity : ℕ
+mostGranularity = 720
+
+-- behind identification and settings, 5 and 7 bytes
+abbrev pub firstRecord : ℕ
+firstRecord = 12
 
 -- "Identification, 5 bytes: FF FF 01 00 01." A missing byte counts as 0, so the fifth is missing from a file of fewer than five.
 unfoldable pub bookMark : ℕ → ℕ → ℕ → ℕ → ℕ → Bool
@@ -20,8 +30,8 @@ bookIdentified f = bookMark (byte f 0) (byte f 1) (byte f 2) (byte f 3) (byte f 
 -- "Settings, 7 bytes: display start minute 0..1,439; granularity 1..720 (house); .. lead time 0..30 (house)"
 unfoldable pub settingsInRange : Settings → Bool
 settingsInRange s =
-    ifLt 1439 (s .start .0) false
-    (ifLt (s .granularity) 1 false (ifLt 720 (s .granularity) false (ifLt 30 (s .lead) false true)))
+    ifLt lastMinute (s .start .0) false
+    (ifLt (s .granularity) 1 false (ifLt mostGranularity (s .granularity) false (ifLt mostLead (s .lead) false true)))
 
 unfoldable pub settingsOf : List ℕ → Settings
 settingsOf f =
@@ -40,4 +50,4 @@ flagsOk alarm carry = ifLt 1 alarm false (ifLt 1 carry false true)
 -- the settings are there and in range
 unfoldable pub settingsOk : List ℕ → Bool
 settingsOk f =
-    ifLt (length f) 12 false (ifB (settingsInRange (settingsOf f)) (flagsOk (byte f 9) (byte f 11)) false)
+    ifLt (length f) firstRecord false (ifB (settingsInRange (settingsOf f)) (flagsOk (byte f 9) (byte f 11)) false)

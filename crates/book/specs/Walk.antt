@@ -9,6 +9,7 @@ use Rattle.prelude.specs.Refusals.{cutShort, unknownType, refusalAt}
 use Rattle.prelude.specs.declared.refusals.Refusal.{Refusal}
 use Rattle.records.specs.Bodies.{judgeBody}
 use Rattle.book.specs.declared.types.StepAnswer.{StepAnswer}
+use Rattle.book.specs.Settings.{firstRecord}
 
 -- "Records: type byte, length L in two bytes, then L bytes."
 abbrev pub typeAt : List ℕ → ℕ → ℕ
@@ -63,7 +64,7 @@ walkFrom f n at = walkF (length f - n) f at
 
 -- the walk over the whole book: the first record stands at byte 12
 unfoldable pub walkOf : List ℕ → Walk
-walkOf f = walkFrom f 0 12
+walkOf f = walkFrom f 0 firstRecord
 
 -- the places of the records met
 unfoldable pub placesIn : Walk → List ℕ

@@ -6,7 +6,9 @@ ghost use Rattle.book.specs.Walk.{nextPlace, bodyAt};
 ghost use Rattle.book.specs.Books.{entryAt, placesOf, recordFrom, recordAnswer, recordTextIn, recordNoteIn};
 ghost use Rattle.book.specs.Invariants.{AcceptedBook};
 ghost use Rattle.book.specs.Invariants.{RecordAt};
+ghost use Rattle.book.specs.Settings.{firstRecord};
 use crate::reading::read_book;
+use crate::settings::FIRST_RECORD;
 use crate::types::Book;
 use crate::types::BookAnswer;
 use crate::types::Entry;
@@ -89,11 +91,11 @@ fn entry_at(file: &[u8], at: usize) -> Entry
 
 // The place of a record by its number, from length to length.
 pub fn place_of(file: &[u8], k: usize) -> usize
-    requires { ⌜ 12 ≤ length (now file) ⌝ }
+    requires { ⌜ firstRecord ≤ length (now file) ⌝ }
     requires { ⌜ k < length (placesOf (now file)) ⌝ }
     ensures { λ r. ⌜ (r ≡ getD (placesOf (now (file .entry))) k 0) × (r ≤ length (now (file .entry))) ⌝ }
 {
-    let mut at: usize = 12;
+    let mut at: usize = FIRST_RECORD;
     let mut i: usize = 0;
     while i < k {
         at = next_place(file, at);

@@ -4,13 +4,16 @@ ghost use Prim.Native.Nat.{_≤_};
 ghost use lib.ListN.{length};
 ghost use Rattle.book.specs.Walk.{walkOf};
 ghost use Rattle.book.specs.Books.{accepted, counted, bookOf};
+ghost use Rattle.book.specs.Settings.{firstRecord};
 use crate::fillers::after_end_record;
+use crate::settings::FIRST_RECORD;
 use crate::settings::is_identified;
 use crate::settings::settings_of;
 use crate::settings::settings_ok;
 use crate::steps::step_at;
 use crate::types::Book;
 use crate::types::BookAnswer;
+use crate::types::MOST_BOOK_BYTES;
 use crate::types::Settings;
 use crate::types::StepAnswer;
 use prelude::refusals::BAD_SETTINGS;
@@ -29,11 +32,11 @@ fn accepted_with(settings: Settings, records: usize, v: Verdict) -> BookAnswer
 }
 
 fn read_records(file: &[u8]) -> BookAnswer
-    requires { ⌜ 12 ≤ length (now file) ⌝ }
+    requires { ⌜ firstRecord ≤ length (now file) ⌝ }
     ensures { λ r. ⌜ r ≡ counted (now (file .entry)) 0 (walkOf (now (file .entry))) ⌝ }
 {
     let mut n: usize = 0;
-    let mut at: usize = 12;
+    let mut at: usize = FIRST_RECORD;
     loop {
         match step_at(file, at) {
             StepAnswer::Record(next) => {
@@ -55,7 +58,7 @@ fn read_records(file: &[u8]) -> BookAnswer
 pub fn read_book(file: &[u8]) -> BookAnswer
     ensures { λ r. ⌜ r ≡ bookOf (now (file .entry)) ⌝ }
 {
-    if 65535 < file.len() {
+    if MOST_BOOK_BYTES < file.len() {
         return BookAnswer::Refused(Refusal {
             number: BOOK_TOO_LONG,
             place: 0,

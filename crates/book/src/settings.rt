@@ -2,10 +2,17 @@
 ghost use mathlib.Core.Path.{_≡_};
 ghost use Rattle.book.specs.Settings.{bookIdentified, settingsInRange, settingsOf, flagsOk, settingsOk, bookMark};
 use crate::types::Settings;
+use days::types::LAST_MINUTE;
 use days::types::Minute;
 use prelude::numbers::wide;
 use prelude::slices::byte;
 use prelude::slices::word;
+use records::ranges::MOST_LEAD;
+
+const MOST_GRANULARITY: u16 = 720;
+
+// Behind identification and settings.
+pub const FIRST_RECORD: usize = 12;
 
 fn same_bytes(a: u8, b: u8, c: u8, d: u8, e: u8) -> bool
     ensures { λ r. ⌜ r ≡ bookMark a b c d e ⌝ }
@@ -42,16 +49,16 @@ pub fn is_identified(file: &[u8]) -> bool
 pub fn settings_in_range(s: Settings) -> bool
     ensures { λ r. ⌜ r ≡ settingsInRange s ⌝ }
 {
-    if 1439 < s.start.0 {
+    if LAST_MINUTE < s.start.0 {
         return false;
     }
     if s.granularity < 1 {
         return false;
     }
-    if 720 < s.granularity {
+    if MOST_GRANULARITY < s.granularity {
         return false;
     }
-    if 30 < s.lead {
+    if MOST_LEAD < s.lead {
         return false;
     }
     true
@@ -89,7 +96,7 @@ fn flags_ok(alarm: u8, carry: u8) -> bool
 pub fn settings_ok(file: &[u8]) -> bool
     ensures { λ r. ⌜ r ≡ settingsOk (now (file .entry)) ⌝ }
 {
-    if file.len() < 12 {
+    if file.len() < FIRST_RECORD {
         return false;
     }
     if settings_in_range(settings_of(file)) {

@@ -4,6 +4,11 @@ use prelude::refusals::Refusal;
 use prelude::slices::Stretch;
 use records::types::Record;
 
+pub const MOST_BOOK_BYTES: usize = 65535;
+
+// Each record takes 14 bytes or more.
+pub const MOST_RECORDS: usize = 4680;
+
 // The book's settings, document 01 "Settings".
 pub struct Settings {
     pub start: Minute,

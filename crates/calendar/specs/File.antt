@@ -6,6 +6,10 @@ use lib.ListN.{length, replicate}
 use Rattle.prelude.specs.Bytes.{le16}
 use Rattle.calendar.specs.declared.types.CalendarSettings.{CalendarSettings}
 
+-- "a day's block would start at block 32,768 or later": the last block that a day may start at
+abbrev pub lastBlock : ℕ
+lastBlock = 32767
+
 -- an appointment: "minute, flags, text"
 pub record Appointment : Type 0 where
   pub minute : ℕ

@@ -10,6 +10,7 @@ use Rattle.prelude.specs.declared.refusals.Verdict.{Verdict}
 use Rattle.calendar.specs.Reader.{mostBytes, calendarIdentified, countOf, tableEnd, dayAt, offsetAt, blockAt, listEnd, tableFrom, daysFrom}
 use Rattle.calendar.specs.Lists.{sizeAt, nextAt, listWalkFrom, placesInList, verdictIn}
 use Rattle.calendar.specs.Shown.{placesOn}
+use Rattle.calendar.specs.File.{lastBlock}
 
 -- the bytes from a place up to a zero
 pub record ZeroLast (f : List ℕ) (from last : ℕ) : Type 0 where
@@ -24,7 +25,7 @@ pub record ListIn (f : List ℕ) (e : ℕ) : Type 0 where
 
 -- what the block of the descriptor at p is
 pub record BlockAt (f : List ℕ) (p : ℕ) : Type 0 where
-  pub low-bits : offsetAt f p ≤ 32767
+  pub low-bits : offsetAt f p ≤ lastBlock
   pub behind : tableEnd f ≤ blockAt f p
   pub words : blockAt f p + 10 ≤ length f
   pub zero : word f (blockAt f p) ≡ 0

@@ -7,6 +7,7 @@ use Rattle.prelude.specs.Choice.{ifLt, ifEq, ifB}
 use Rattle.prelude.specs.Bytes.{byte, word}
 use Rattle.prelude.specs.Refusals.{badAppointment, refusalAt}
 use Rattle.prelude.specs.declared.refusals.Verdict.{Verdict}
+use Rattle.days.specs.Days.{lastMinute}
 
 -- "Appointment: size byte, flags (1 alarm, 2 special time), minute, text, zero byte."
 abbrev pub sizeAt : List ℕ → ℕ → ℕ
@@ -37,7 +38,7 @@ appointmentOk f e low at =
     ifLt (sizeAt f at) 5 false
     (ifLt e (nextAt f at) false
     (ifLt 3 (flagsAt f at) false
-    (ifLt 1439 (minuteAt f at) false
+    (ifLt lastMinute (minuteAt f at) false
     (ifLt (minuteAt f at) low false
     (textEnds f at (sizeAt f at))))))
 

@@ -12,6 +12,7 @@ use Rattle.prelude.specs.declared.refusals.Verdict.{Verdict}
 use Rattle.days.specs.Days.{lastDay}
 use Rattle.calendar.specs.Lists.{ListWalk, listWalkFrom, verdictIn}
 use Rattle.calendar.specs.declared.types.CalendarAnswer.{CalendarAnswer}
+use Rattle.calendar.specs.File.{lastBlock}
 
 -- "Calendar file over 2,228,224 bytes"
 abbrev pub mostBytes : ℕ
@@ -69,7 +70,7 @@ tableFrom (suc k) f p low =
 -- the descriptor at p: "offset with its high bit set or inside head or table; block past the end; block's day, 0 or 1 wrong"
 unfoldable pub blockOk : List ℕ → ℕ → Bool
 blockOk f p =
-    ifLt 32767 (offsetAt f p) false
+    ifLt lastBlock (offsetAt f p) false
     (ifLt (blockAt f p) (tableEnd f) false
     (ifLt (length f) (blockAt f p + 10) false
     (ifEq (word f (blockAt f p)) 0

@@ -3,6 +3,7 @@ ghost use mathlib.Core.Path.{_≡_};
 ghost use Prim.Native.Nat.{_+_, _*_, _<_, _≤_};
 ghost use lib.ListN.{length};
 ghost use Rattle.calendar.specs.Reader.{calendarMark, calendarIdentified, countOf, tableFrom};
+use days::types::LAST_DAY;
 use prelude::refusals::BAD_TABLE;
 use prelude::refusals::Refusal;
 use prelude::refusals::Verdict;
@@ -75,7 +76,7 @@ pub fn judge_table(file: &[u8], count: usize) -> Verdict
     let mut left = count;
     while 0 < left {
         let day = word_in(file, p);
-        if 43829 < day {
+        if LAST_DAY < day {
             return Verdict::Refused(Refusal {
                 number: BAD_TABLE,
                 place: p,

@@ -7,6 +7,7 @@ ghost use Rattle.calendar.specs.Invariants.{ZeroLast, ListIn};
 ghost use Rattle.calendar.specs.Reader.{blockAt, listPlace, listEnd};
 ghost use Rattle.calendar.specs.Invariants.{BlockAt};
 use crate::types::Span;
+use days::types::LAST_MINUTE;
 use prelude::numbers::wide_size;
 use prelude::refusals::BAD_APPOINTMENT;
 use prelude::refusals::Refusal;
@@ -98,7 +99,7 @@ fn appointment_ok(file: &[u8], end: usize, low: u16, at: usize) -> bool
         return false;
     }
     let minute = word_in(file, at + 2);
-    if 1439 < minute {
+    if LAST_MINUTE < minute {
         return false;
     }
     if minute < low {

@@ -10,6 +10,7 @@ use crate::head::judge_table;
 use crate::lists::judge_list;
 use crate::lists::span_of;
 use crate::types::CalendarAnswer;
+use crate::types::LAST_BLOCK;
 use prelude::refusals::BAD_BLOCK;
 use prelude::refusals::BAD_TABLE;
 use prelude::refusals::CALENDAR_TOO_LONG;
@@ -24,7 +25,7 @@ fn block_ok(file: &[u8], p: usize, table_end: usize) -> bool
     ensures { λ r. ⌜ r ≡ blockOk (now (file .entry)) p ⌝ }
 {
     let offset = word_in(file, p + 6) as usize;
-    if 32767 < offset {
+    if LAST_BLOCK < offset {
         return false;
     }
     let block = 64 * offset;

@@ -14,6 +14,7 @@ use crate::types::DescriptorAnswer;
 use crate::types::EntryAnswer;
 use crate::types::Span;
 use days::types::CalendarDay;
+use days::types::LAST_DAY;
 use prelude::refusals::NO_SUCH_NUMBER;
 use prelude::refusals::OUT_OF_RANGE;
 use prelude::refusals::Refusal;
@@ -71,7 +72,7 @@ fn count_on(file: &[u8], day: CalendarDay, n: usize) -> CountAnswer
     requires { ⌜ AcceptedFile (now file) n ⌝ }
     ensures { λ r. ⌜ r ≡ countFrom (now (file .entry)) (day .0) (CalendarAnswer.Accepted n) ⌝ }
 {
-    if 43829 < day.0 {
+    if LAST_DAY < day.0 {
         return CountAnswer::Refused(Refusal {
             number: OUT_OF_RANGE,
             place: 0,
@@ -96,7 +97,7 @@ fn entry_on(file: &[u8], day: CalendarDay, k: usize, n: usize) -> EntryAnswer
     requires { ⌜ AcceptedFile (now file) n ⌝ }
     ensures { λ r. ⌜ r ≡ entryFrom (now (file .entry)) (day .0) k (CalendarAnswer.Accepted n) ⌝ }
 {
-    if 43829 < day.0 {
+    if LAST_DAY < day.0 {
         return EntryAnswer::Refused(Refusal {
             number: OUT_OF_RANGE,
             place: 0,

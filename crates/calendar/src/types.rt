@@ -4,6 +4,8 @@ use days::types::Minute;
 use prelude::refusals::Refusal;
 use prelude::slices::Stretch;
 
+pub const LAST_BLOCK: usize = 32767;
+
 // The six settings of the head, as stored: early ring in minutes, sound, interval code and interval in minutes, 24-hour flag, start minute.
 pub struct CalendarSettings {
     pub ring: u16,

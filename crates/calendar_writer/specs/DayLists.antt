@@ -5,7 +5,11 @@ use mathlib.Core.Bool.{Bool, true, false}
 use mathlib.Core.List.{List, [], _∷_}
 use lib.ListN.{length}
 use Rattle.prelude.specs.Choice.{ifLt}
-use Rattle.calendar.specs.File.{Appointment, Day, units, blockBytes, firstUnit}
+use Rattle.calendar.specs.File.{Appointment, Day, units, blockBytes, firstUnit, lastBlock}
+
+-- "a count of days, 0 to 366"
+abbrev pub mostDays : ℕ
+mostDays = 366
 
 -- "One descriptor for each day with appointments": a day in front of those after it
 unfoldable pub addDay : ℕ → List Appointment → List Day → List Day
@@ -20,7 +24,7 @@ daysWith list (suc count) d = addDay d (list d) (daysWith list count (suc d))
 -- "a day's block would start at block 32,768 or later", where the first starts at block u
 unfoldable pub pastLastBlockFrom : ℕ → List Day → Bool
 pastLastBlockFrom u [] = false
-pastLastBlockFrom u (d ∷ ds) = ifLt 32767 u true (pastLastBlockFrom (u + units (length (blockBytes d))) ds)
+pastLastBlockFrom u (d ∷ ds) = ifLt lastBlock u true (pastLastBlockFrom (u + units (length (blockBytes d))) ds)
 
 unfoldable pub pastLastBlock : List Day → Bool
 pastLastBlock ds = pastLastBlockFrom (firstUnit (length ds)) ds

@@ -8,7 +8,7 @@ use lib.ListN.{length}
 use Rattle.prelude.specs.Choice.{ifLt, ifEq}
 use Rattle.prelude.specs.Bytes.{le16}
 use Rattle.sorting.specs.Totals.{total}
-use Rattle.calendar.specs.File.{Appointment, Day, zeros, units, appointmentsBytes, alarms, firstUnit, fileOf}
+use Rattle.calendar.specs.File.{Appointment, Day, zeros, units, appointmentsBytes, alarms, firstUnit, fileOf, lastBlock}
 use Rattle.calendar.specs.declared.types.CalendarSettings.{CalendarSettings}
 use Rattle.calendar_writer.specs.DayLists.{pastLastBlock}
 use Rattle.calendar_writer.specs.declared.types.Measure.{Measure}
@@ -50,7 +50,7 @@ unitsFor s = units (10 + bytesIn s)
 -- n days behind with u units of blocks, the last of which began after `last` units, and a appointments
 abbrev pub measured : ℕ → ℕ → ℕ → ℕ → Measure
 measured n u last a =
-    record { length = 64 * (firstUnit n + u); descriptors = n; appointments = a; «past_last_block» = ifLt 32767 (firstUnit n + last) true false }
+    record { length = 64 * (firstUnit n + u); descriptors = n; appointments = a; «past_last_block» = ifLt lastBlock (firstUnit n + last) true false }
 
 unfoldable pub sumUp : ℕ → ℕ → ℕ → ℕ → List ℕ → Measure
 sumUp n u last a [] = measured n u last a

@@ -4,9 +4,11 @@ ghost use mathlib.Core.Bool.{true, false};
 ghost use Prim.Native.Nat.{_≤_};
 ghost use lib.ListN.{length};
 ghost use Rattle.prelude.specs.Choice.{ifLt};
-ghost use Rattle.calendar.specs.File.{firstUnit};
+ghost use Rattle.calendar.specs.File.{firstUnit, lastBlock};
 ghost use Rattle.calendar_writer.specs.Sums.{unitsFor, measured, sumUp};
+ghost use Rattle.calendar_writer.specs.DayLists.{mostDays};
 use crate::types::Measure;
+use calendar::types::LAST_BLOCK;
 
 // The units of a day's block.
 pub fn units_for(sum: u64) -> usize
@@ -17,23 +19,23 @@ pub fn units_for(sum: u64) -> usize
 
 // The unit at which the first block stands behind n descriptors.
 pub fn first_unit(n: usize) -> usize
-    requires { ⌜ n ≤ 366 ⌝ }
+    requires { ⌜ n ≤ mostDays ⌝ }
     ensures { λ r. ⌜ r ≡ firstUnit n ⌝ }
 {
     1 + (12 * n + 63) / 64
 }
 
 fn is_past_last(unit: usize) -> bool
-    ensures { λ r. ⌜ r ≡ ifLt 32767 unit true false ⌝ }
+    ensures { λ r. ⌜ r ≡ ifLt lastBlock unit true false ⌝ }
 {
-    if 32767 < unit {
+    if LAST_BLOCK < unit {
         return true;
     }
     false
 }
 
 fn measure_of(n: usize, units: usize, last: usize, appointments: usize) -> Measure
-    requires { ⌜ n ≤ 366 ⌝ }
+    requires { ⌜ n ≤ mostDays ⌝ }
     requires { ⌜ units ≤ 375150 ⌝ }
     requires { ⌜ last ≤ units ⌝ }
     ensures { λ r. ⌜ r ≡ measured n units last appointments ⌝ }
@@ -49,7 +51,7 @@ fn measure_of(n: usize, units: usize, last: usize, appointments: usize) -> Measu
 
 // The file's length, its descriptors and its appointments, and whether a block would start at block 32,768 or later.
 pub fn measure(sums: &[u64]) -> Measure
-    requires { ⌜ length (now sums) ≤ 366 ⌝ }
+    requires { ⌜ length (now sums) ≤ mostDays ⌝ }
     ensures { λ r. ⌜ r ≡ sumUp 0 0 0 0 (now (sums .entry)) ⌝ }
 {
     let mut n: usize = 0;

@@ -4,6 +4,7 @@ ghost use mathlib.Core.List.{[]};
 ghost use Prim.Native.Nat.{_+_, _≤_};
 ghost use lib.ListN.{length};
 ghost use Rattle.prelude.specs.Splice.{splice};
+ghost use Rattle.texts.specs.Notes.{mostText};
 ghost use Rattle.calendar.specs.File.{zeros, headBytes, appointmentBytes};
 ghost use Rattle.calendar_writer.specs.Sums.{descriptorOf, sumTable, rowOf};
 use crate::bytes::appointment_head;
@@ -88,7 +89,7 @@ pub fn put_blank(out: &mut [u8], at: usize, day: usize, sum: u64) -> usize
 
 // An appointment of that minute, flags and text.
 pub fn put_appointment(out: &mut [u8], at: usize, minute: u16, flags: u8, text: &[u8]) -> usize
-    requires { ⌜ length (now text) ≤ 27 ⌝ }
+    requires { ⌜ length (now text) ≤ mostText ⌝ }
     requires { ⌜ at + length (appointmentBytes (record { minute = minute; flags = flags; text = now text })) ≤ length (now out) ⌝ }
     ensures next { λ r. ⌜ r ≡ at + length (appointmentBytes (record { minute = minute; flags = flags; text = now (text .entry) })) ⌝ }
     ensures put { λ _. ⌜ now (out .exit) ≡ splice (now (out .entry)) at (appointmentBytes (record { minute = minute; flags = flags; text = now (text .entry) })) ⌝ }

@@ -9,6 +9,10 @@ use Rattle.days.specs.declared.types.Date.{Date}
 abbrev pub lastDay : ℕ
 lastDay = 43829
 
+-- "A minute counts from midnight, 0 to 1,439."
+abbrev pub lastMinute : ℕ
+lastMinute = 1439
+
 -- The months count from January 1980 = 0.
 abbrev pub yearAt : ℕ → ℕ
 yearAt i = 1980 + i / 12

@@ -11,6 +11,7 @@ use crate::numbers::weekday_of;
 use crate::types::CalendarDay;
 use crate::types::Date;
 use crate::types::DayFacts;
+use crate::types::LAST_DAY;
 use prelude::refusals::OUT_OF_RANGE;
 use prelude::refusals::Refusal;
 
@@ -18,7 +19,7 @@ use prelude::refusals::Refusal;
 pub fn facts_of_day(n: CalendarDay) -> FactsAnswer
     ensures { λ r. ⌜ r ≡ factsAnswer n ⌝ }
 {
-    if 43829 < n.0 {
+    if LAST_DAY < n.0 {
         return FactsAnswer::Refused(Refusal {
             number: OUT_OF_RANGE,
             place: 0,
@@ -87,7 +88,7 @@ fn step(f: DayFacts) -> DayFacts
 pub fn next_facts(f: DayFacts) -> DayFacts
     ensures { λ r. ⌜ r ≡ nextFacts f ⌝ }
 {
-    if f.day.0 < 43829 {
+    if f.day.0 < LAST_DAY {
         if 2099 < f.date.year {
             return f;
         }
@@ -100,7 +101,7 @@ pub fn next_facts(f: DayFacts) -> DayFacts
 pub fn next_day(f: DayFacts) -> FactsAnswer
     ensures { λ r. ⌜ r ≡ nextAnswer f ⌝ }
 {
-    if f.day.0 < 43829 {
+    if f.day.0 < LAST_DAY {
         if 2099 < f.date.year {
             return FactsAnswer::Refused(Refusal {
                 number: OUT_OF_RANGE,

@@ -11,6 +11,7 @@ use crate::dates::is_real;
 use crate::search::month_of;
 use crate::types::CalendarDay;
 use crate::types::Date;
+use crate::types::LAST_DAY;
 use prelude::refusals::OUT_OF_RANGE;
 use prelude::refusals::Refusal;
 
@@ -66,7 +67,7 @@ pub fn date_of(n: u16) -> Date
 pub fn date_of_day(n: CalendarDay) -> DateAnswer
     ensures { λ r. ⌜ r ≡ dateAnswer n ⌝ }
 {
-    if 43829 < n.0 {
+    if LAST_DAY < n.0 {
         return DateAnswer::Refused(Refusal {
             number: OUT_OF_RANGE,
             place: 0,
@@ -87,7 +88,7 @@ pub fn weekday_of(n: u16) -> u16
 pub fn weekday_of_day(n: CalendarDay) -> WeekdayAnswer
     ensures { λ r. ⌜ r ≡ weekdayAnswer n ⌝ }
 {
-    if 43829 < n.0 {
+    if LAST_DAY < n.0 {
         return WeekdayAnswer::Refused(Refusal {
             number: OUT_OF_RANGE,
             place: 0,

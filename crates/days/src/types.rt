@@ -1,5 +1,10 @@
 // The counts of document 01, kept apart: a day of one count is no day of another, and a minute is neither.
 
+// 31 December 2099.
+pub const LAST_DAY: u16 = 43829;
+
+pub const LAST_MINUTE: u16 = 1439;
+
 // A Calendar day: 1 January 1980 = 0 to 31 December 2099 = 43,829.
 pub struct CalendarDay(pub u16);
 

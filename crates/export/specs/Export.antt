@@ -19,12 +19,12 @@ use Rattle.falls.specs.declared.types.ShortMonth.{ShortMonth}
 use Rattle.pages.specs.Pages.{Numbered, recordTimes, startOf, pageOf, fallsOn}
 use Rattle.calendar.specs.File.{Appointment, Day, fileOf}
 use Rattle.calendar.specs.declared.types.CalendarSettings.{CalendarSettings}
-use Rattle.calendar_writer.specs.DayLists.{daysWith, pastLastBlock}
+use Rattle.calendar_writer.specs.DayLists.{daysWith, pastLastBlock, mostDays}
 use Rattle.export.specs.declared.answers.ExportAnswer.{ExportAnswer}
 
 -- "The export takes a first day, a Calendar day even when the count is 0, and a count of days, 0 to 366, with first + count at most 43,830."
 unfoldable pub spanOk : ℕ → ℕ → Bool
-spanOk first count = ifLt lastDay first false (ifLt 366 count false (ifLt (lastDay + 1) (first + count) false true))
+spanOk first count = ifLt lastDay first false (ifLt mostDays count false (ifLt (lastDay + 1) (first + count) false true))
 
 -- "granularity 15, 30 or 60 as its code and minutes and anything else as 30"; "interval code (0 = 15, 1 = 30, 2 = 60 minutes)"
 unfoldable pub codeOf : ℕ → ℕ

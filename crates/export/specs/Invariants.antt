@@ -7,8 +7,9 @@ use mathlib.Core.List.{List, List·Memᴰ, map}
 use lib.ListN.{length}
 use Rattle.sorting.specs.Totals.{total}
 use Rattle.sorting.specs.Keep.{keep}
+use Rattle.days.specs.Days.{lastMinute}
 use Rattle.day_steps.specs.Codes.{Spanned}
-use Rattle.texts.specs.Notes.{noZero}
+use Rattle.texts.specs.Notes.{noZero, mostText}
 use Rattle.falls.specs.declared.types.ShortMonth.{ShortMonth}
 use Rattle.pages.specs.Pages.{Numbered, numbered, startOf, pageOf}
 use Rattle.pages.specs.Codes.{code}
@@ -17,8 +18,8 @@ use Rattle.export.specs.Passes.{CountedBook, keptIn, Weighed}
 
 -- what the export takes of a record
 pub record GoodRecord (f : List ℕ) (x : Numbered) : Type 0 where
-  pub minute : startOf x ≤ 1439
-  pub short : length (recordText f x) ≤ 27
+  pub minute : startOf x ≤ lastMinute
+  pub short : length (recordText f x) ≤ mostText
   pub clean : noZero (recordText f x) ≡ true
 
 -- the bytes of a record as an appointment

@@ -9,8 +9,10 @@ use Rattle.prelude.specs.Bytes.{bit}
 use Rattle.prelude.specs.Choice.{ifB}
 use Rattle.sorting.specs.Keep.{keep}
 use Rattle.sorting.specs.Totals.{total}
+use Rattle.texts.specs.Notes.{mostText}
 use Rattle.records.specs.Ranges.{recordOk}
-use Rattle.book.specs.Books.{placesOf, entryAt}
+use Rattle.book.specs.Books.{placesOf, entryAt, mostBookBytes}
+use Rattle.book.specs.Settings.{firstRecord}
 use Rattle.falls.specs.declared.types.ShortMonth.{ShortMonth}
 use Rattle.occurrences.specs.Rules.{ruleOf, ruleShows}
 use Rattle.pages.specs.Pages.{Numbered, numbered, recordTimes}
@@ -29,8 +31,8 @@ someDay p (suc n) = ifB (p n) true (someDay p n)
 
 -- an accepted book with its number of records
 pub record CountedBook (f : List ℕ) (records : ℕ) : Type 0 where
-  pub size : length f ≤ 65535
-  pub long : 12 ≤ length f
+  pub size : length f ≤ mostBookBytes
+  pub long : firstRecord ≤ length f
   pub count : records ≡ length (placesOf f)
 
 -- a record at a place of an accepted book
@@ -38,7 +40,7 @@ pub record Sound (f : List ℕ) (at : ℕ) : Type 0 where
   pub place : at ≤ 65535
   pub fine : recordOk (entryAt f at .«record») ≡ true
   pub text : entryAt f at .text .place + entryAt f at .text .length ≤ length f
-  pub short : entryAt f at .text .length ≤ 27
+  pub short : entryAt f at .text .length ≤ mostText
 
 -- a record shows on the k-th day of a span, whose days are given as codes
 abbrev pub marked : ShortMonth → List ℕ → ℕ → Numbered → Bool

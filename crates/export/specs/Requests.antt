@@ -8,6 +8,7 @@ use Rattle.days.specs.Days.{lastDay}
 use Rattle.days.specs.Facts.{factsOf}
 use Rattle.book.specs.Books.{bookOf}
 use Rattle.book.specs.declared.types.BookAnswer.{BookAnswer}
+use Rattle.calendar_writer.specs.DayLists.{mostDays}
 use Rattle.export.specs.Passes.{AtMost}
 use Rattle.export.specs.declared.requests.Request.{Request}
 
@@ -16,7 +17,7 @@ pub record ValidRequest (f : List ℕ) (q : Request) (count : ℕ) : Type 0 wher
   pub book : bookOf f ≡ BookAnswer.Accepted (q .book)
   pub facts : q .first ≡ factsOf (q .first .day .0)
   pub end : q .first .day .0 + count ≤ lastDay + 1
-  pub most : count ≤ 366
+  pub most : count ≤ mostDays
 
 -- lists for that many days, the sums 0, and room for all records
 pub record Space (records : ℕ) (days sums places codes spare : List ℕ) : Type 0 where

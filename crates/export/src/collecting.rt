@@ -5,16 +5,18 @@ ghost use Prim.Native.Nat.{_+_, _*_, _<_, _≤_};
 ghost use lib.ListN.{length, getD, take};
 ghost use Rattle.prelude.specs.Bytes.{bit};
 ghost use Rattle.sorting.specs.Keep.{keep};
-ghost use Rattle.book.specs.Books.{entryAt};
+ghost use Rattle.book.specs.Books.{entryAt, mostBookBytes};
 ghost use Rattle.pages.specs.Pages.{numbered};
 ghost use Rattle.pages.specs.Invariants.{recordAt};
 ghost use Rattle.pages.specs.Codes.{code};
 ghost use Rattle.day_steps.specs.Codes.{Spanned, Days};
+ghost use Rattle.texts.specs.Notes.{mostText};
 ghost use Rattle.occurrences.specs.Rules.{ruleOf, ruleShows};
 ghost use Rattle.occurrences.specs.Next.{Next};
 ghost use Rattle.calendar_writer.specs.Scatter.{Added};
 ghost use Rattle.export.specs.Passes.{AtMost, CountedBook, Sound, keptIn, weighs, Weighed};
 use book::entries::next_place;
+use book::settings::FIRST_RECORD;
 use falls::types::ShortMonth;
 use occurrences::hits::next_after;
 use occurrences::hits::next_from;
@@ -30,7 +32,7 @@ use prelude::slices::word;
 
 // The rule of the record at a place.
 pub fn rule_at(file: &[u8], at: usize) -> Rule
-    requires { ⌜ at ≤ 65535 ⌝ }
+    requires { ⌜ at ≤ mostBookBytes ⌝ }
     ensures { λ r. ⌜ r ≡ ruleOf (entryAt (now (file .entry)) at .«record») ⌝ }
 {
     let t = byte(file, at);
@@ -41,7 +43,7 @@ pub fn rule_at(file: &[u8], at: usize) -> Rule
 
 // One appointment of a text's length, with its alarm or without, as a sum.
 fn weight_of(alarm: bool, length: usize) -> u64
-    requires { ⌜ length ≤ 27 ⌝ }
+    requires { ⌜ length ≤ mostText ⌝ }
     ensures { λ r. ⌜ r ≡ 4294967296 + bit alarm * 65536 + (5 + length) ⌝ }
 {
     if alarm {
@@ -117,7 +119,7 @@ pub fn collect(
         ⌜ take r (now (codes .exit)) ≡ map code (keep (keptIn c (now (days .entry))) (numbered (now (file .entry)))) ⌝ }
     ensures { λ _. ⌜ Weighed (now (file .entry)) c (now (days .entry)) (now (sums .exit)) ⌝ }
 {
-    let mut at: usize = 12;
+    let mut at: usize = FIRST_RECORD;
     let mut n: usize = 0;
     let mut count: usize = 0;
     while n < records {

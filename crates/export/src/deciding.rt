@@ -3,7 +3,9 @@ ghost use mathlib.Core.Path.{_≡_};
 ghost use Rattle.prelude.specs.Refusals.{refusal};
 ghost use Rattle.export.specs.Export.{spanOk, sized};
 use crate::answers::ExportAnswer;
+use calendar_writer::types::MOST_COUNT;
 use calendar_writer::types::Measure;
+use days::types::LAST_DAY;
 use prelude::refusals::NO_ROOM;
 use prelude::refusals::Refusal;
 use prelude::refusals::TOO_MANY_BLOCKS;
@@ -17,10 +19,10 @@ pub fn refused(number: u32) -> ExportAnswer
 pub fn span_ok(first: u16, count: u16) -> bool
     ensures { λ r. ⌜ r ≡ spanOk first count ⌝ }
 {
-    if 43829 < first {
+    if LAST_DAY < first {
         return false;
     }
-    if 366 < count {
+    if MOST_COUNT < count {
         return false;
     }
     if 43830 < first + count {

@@ -9,7 +9,9 @@ use crate::collecting::collect;
 use crate::deciding::answer_for;
 use crate::requests::Request;
 use crate::writing::fill;
+use book::types::MOST_RECORDS;
 use calendar_writer::measuring::measure;
+use calendar_writer::types::MOST_DAYS;
 use day_steps::packing::pack_days;
 
 // As many days as the lent lists of days, sums and places have elements.
@@ -81,11 +83,11 @@ fn export_many(file: &[u8], q: Request, count: usize, out: &mut [u8]) -> ExportA
     ensures { λ _.
         ⌜ now (out .exit) ≡ spanLeaves (showsUnder (q .choice)) (now (file .entry)) (q .first .day .0) count (now (out .entry)) ⌝ }
 {
-    let mut days = [0u32; 366];
-    let mut sums = [0u64; 366];
-    let mut places = [0usize; 366];
-    let mut codes = [0u64; 4680];
-    let mut spare = [0u64; 4680];
+    let mut days = [0u32; MOST_DAYS];
+    let mut sums = [0u64; MOST_DAYS];
+    let mut places = [0usize; MOST_DAYS];
+    let mut codes = [0u64; MOST_RECORDS];
+    let mut spare = [0u64; MOST_RECORDS];
     export_days(
         file,
         q,

@@ -6,7 +6,7 @@ ghost use Rattle.prelude.specs.Splice.{splice};
 ghost use Rattle.book.specs.Settings.{settingsOf};
 ghost use Rattle.calendar.specs.File.{fileOf};
 ghost use Rattle.export.specs.Export.{appointmentsFor, exportDays, exportFile, showsUnder};
-ghost use Rattle.calendar_writer.specs.DayLists.{daysWith};
+ghost use Rattle.calendar_writer.specs.DayLists.{daysWith, mostDays};
 ghost use Rattle.export.specs.Invariants.{ReadyToFill, Gathered};
 use crate::filling::put_days;
 use crate::requests::Request;
@@ -34,7 +34,7 @@ fn put_file(
 ) -> usize
     requires { ⌜ 0 < s .interval ⌝ }
     requires { ⌜ ReadyToFill (now file) c first (now days) (now sums) (now codes) ⌝ }
-    requires { ⌜ length (now days) ≤ 366 ⌝ }
+    requires { ⌜ length (now days) ≤ mostDays ⌝ }
     requires { ⌜ length (now places) ≡ length (now days) ⌝ }
     requires { ⌜ n ≡ length (daysWith (appointmentsFor (showsUnder c) (now file) (s .interval)) (length (now days)) first) ⌝ }
     requires { ⌜ 0 + length (fileOf s (daysWith (appointmentsFor (showsUnder c) (now file) (s .interval)) (length (now days)) first)) ≤ length (now out) ⌝ }
@@ -78,7 +78,7 @@ pub fn fill(
     requires { ⌜ Gathered (now file) (q .choice) (q .first .day .0) (now days) (now sums) (take n (now codes)) ⌝ }
     requires { ⌜ n ≤ length (now codes) ⌝ }
     requires { ⌜ length (now codes) ≤ length (now spare) ⌝ }
-    requires { ⌜ length (now days) ≤ 366 ⌝ }
+    requires { ⌜ length (now days) ≤ mostDays ⌝ }
     requires { ⌜ length (now places) ≡ length (now days) ⌝ }
     requires { ⌜ descriptors ≡ length (exportDays (showsUnder (q .choice)) (now file) (q .first .day .0) (length (now days))) ⌝ }
     requires { ⌜ length (exportFile (showsUnder (q .choice)) (now file) (q .first .day .0) (length (now days))) ≤ length (now out) ⌝ }

@@ -9,6 +9,10 @@ use Rattle.records.specs.declared.types.Record.{Record}
 use Rattle.falls.specs.declared.types.ShortMonth.{ShortMonth}
 use Rattle.occurrences.specs.declared.types.Rule.{Rule}
 
+-- a wait longer than any span
+abbrev pub longestWait : ℕ
+longestWait = 366
+
 abbrev pub repeated : ℕ → ℕ → ℕ → Repeat → Rule
 repeated kind a b r = record { kind = kind; a = a; b = b; first = dateCode (r .first); last = dateCode (r .last) }
 
@@ -61,7 +65,7 @@ toWeekday p weekday = (weekday + 13 - weekdayIn p) % 7 + 1
 unfoldable pub toDate : ℕ → ℕ → ℕ
 toDate p date = ifLt (dateIn p) date (ifLt (date - dateIn p) (toMonth p) (date - dateIn p) (toMonth p)) 1
 
--- so many days on the rule can show again, and not before; 366 where it never does
+-- so many days on the rule can show again, and not before; the longest wait where it never does
 unfoldable pub waitFor : Rule → ℕ → ℕ
 waitFor r p =
     ifLt (dateIn p) (r .last)
@@ -69,8 +73,8 @@ waitFor r p =
     (ifEq (r .kind) 1 (toDate p (r .first))
     (ifEq (r .kind) 3 (toDay p (r .a))
     (ifEq (r .kind) 4 (toWeekday p (r .a))
-    (ifEq (r .kind) 5 (ifEq (monthIn p) (r .a) (toDay p (r .b)) (toMonth p)) 366)))))
-    366
+    (ifEq (r .kind) 5 (ifEq (monthIn p) (r .a) (toDay p (r .b)) (toMonth p)) longestWait)))))
+    longestWait
 
 -- so many days at least lie between two days on which a rule that is not weekly shows: no month has less than 28
 unfoldable pub gapOf : ℕ → ℕ

@@ -3,6 +3,8 @@ ghost use mathlib.Core.Path.{_≡_};
 ghost use Rattle.occurrences.specs.Rules.{toMonth, toDay, toWeekday, toDate, waitFor};
 use crate::types::Rule;
 
+const LONGEST_WAIT: u32 = 366;
+
 fn to_month(p: u32) -> u32
     ensures { λ r. ⌜ r ≡ toMonth p ⌝ }
 {
@@ -62,7 +64,7 @@ pub fn wait_for(r: Rule, p: u32) -> u32
     ensures { λ z. ⌜ z ≡ waitFor r p ⌝ }
 {
     if r.last <= p / 256 {
-        return 366;
+        return LONGEST_WAIT;
     }
     if r.kind == 2 {
         return to_weekday(p, r.a);
@@ -82,5 +84,5 @@ pub fn wait_for(r: Rule, p: u32) -> u32
         }
         return to_month(p);
     }
-    366
+    LONGEST_WAIT
 }

@@ -5,7 +5,7 @@ ghost use Prim.Native.Nat.{_≤_, _<_};
 ghost use lib.ListN.{length, take};
 ghost use Rattle.sorting.specs.Keep.{keep};
 ghost use Rattle.book.specs.Invariants.{RecordAt};
-ghost use Rattle.book.specs.Books.{entryAt};
+ghost use Rattle.book.specs.Books.{entryAt, mostBookBytes};
 ghost use Rattle.falls.specs.Falls.{falls};
 ghost use Rattle.falls.specs.Times.{timesOf};
 ghost use Rattle.pages.specs.Pages.{numbered, fallsOn, pageOn};
@@ -14,6 +14,7 @@ ghost use Rattle.pages.specs.Invariants.{ReadyBook};
 use crate::types::Ready;
 use book::entries::body_at;
 use book::entries::next_place;
+use book::settings::FIRST_RECORD;
 use days::types::DayFacts;
 use falls::rules::falls_quickly;
 use falls::times::start_of;
@@ -42,7 +43,7 @@ fn start_at(file: &[u8], at: usize) -> u16
 
 // The times and the alarm mark of the record at a place.
 pub fn times_at(file: &[u8], at: usize) -> Times
-    requires { ⌜ at ≤ 65535 ⌝ }
+    requires { ⌜ at ≤ mostBookBytes ⌝ }
     ensures { λ r. ⌜ r ≡ timesOf (entryAt (now (file .entry)) at .«record») ⌝ }
 {
     let t = byte(file, at);
@@ -57,7 +58,7 @@ pub fn count_lines(file: &[u8], c: ShortMonth, a: Ready) -> usize
     ensures { λ r. ⌜ r ≡ length (pageOn c (a .facts) (now (file .entry))) ⌝ }
 {
     let f = a.facts;
-    let mut at: usize = 12;
+    let mut at: usize = FIRST_RECORD;
     let mut n: usize = 0;
     let mut count: usize = 0;
     while n < a.records {
@@ -89,7 +90,7 @@ pub fn collect(file: &[u8], c: ShortMonth, a: Ready, codes: &mut [u64]) -> usize
         ⌜ take r (now (codes .exit)) ≡ map code (keep (fallsOn c (a .facts)) (numbered (now (file .entry)))) ⌝ }
 {
     let f = a.facts;
-    let mut at: usize = 12;
+    let mut at: usize = FIRST_RECORD;
     let mut n: usize = 0;
     let mut count: usize = 0;
     while n < a.records {

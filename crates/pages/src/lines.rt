@@ -12,6 +12,7 @@ use crate::types::LineAnswer;
 use crate::types::Ready;
 use crate::types::Validated;
 use crate::validating::validate;
+use book::types::MOST_RECORDS;
 use days::types::CalendarDay;
 use falls::types::ShortMonth;
 use prelude::refusals::NO_SUCH_NUMBER;
@@ -62,8 +63,8 @@ fn line_in(file: &[u8], c: ShortMonth, k: usize, a: Ready) -> LineAnswer
         let mut spare = [0u64; 64];
         return line_with(file, c, k, a, &mut codes, &mut spare);
     }
-    let mut codes = [0u64; 4680];
-    let mut spare = [0u64; 4680];
+    let mut codes = [0u64; MOST_RECORDS];
+    let mut spare = [0u64; MOST_RECORDS];
     line_with(file, c, k, a, &mut codes, &mut spare)
 }
 

@@ -3,7 +3,7 @@ ghost use mathlib.Core.Path.{_≡_};
 ghost use mathlib.Core.List.{map};
 ghost use Prim.Native.Nat.{_≤_};
 ghost use lib.ListN.{length, take};
-ghost use Rattle.book.specs.Books.{entryAt};
+ghost use Rattle.book.specs.Books.{entryAt, mostBookBytes};
 ghost use Rattle.pages.specs.Pages.{pageOn, pageLineOf};
 ghost use Rattle.pages.specs.Codes.{code as codeOf, decode};
 ghost use Rattle.pages.specs.Invariants.{ReadyBook};
@@ -41,7 +41,7 @@ pub fn page_codes(
 
 // Where the text of the record at a place lies.
 pub fn text_of(file: &[u8], at: usize) -> Stretch
-    requires { ⌜ at ≤ 65535 ⌝ }
+    requires { ⌜ at ≤ mostBookBytes ⌝ }
     ensures { λ r. ⌜ r ≡ entryAt (now (file .entry)) at .text ⌝ }
 {
     let t = byte(file, at);

@@ -12,6 +12,7 @@ use crate::measures::coded_size;
 use crate::measures::page_size;
 use crate::puts::put_head;
 use crate::puts::put_lines;
+use book::types::MOST_RECORDS;
 use days::types::CalendarDay;
 use days::types::DayFacts;
 use falls::types::ShortMonth;
@@ -89,8 +90,8 @@ fn print_in(file: &[u8], c: ShortMonth, a: Ready, out: &mut [u8]) -> CountAnswer
         let mut spare = [0u64; 64];
         return print_with(file, c, a, &mut codes, &mut spare, out);
     }
-    let mut codes = [0u64; 4680];
-    let mut spare = [0u64; 4680];
+    let mut codes = [0u64; MOST_RECORDS];
+    let mut spare = [0u64; MOST_RECORDS];
     print_with(file, c, a, &mut codes, &mut spare, out)
 }
 

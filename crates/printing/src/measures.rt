@@ -4,13 +4,14 @@ ghost use mathlib.Core.List.{map};
 ghost use Prim.Native.Nat.{_+_, _≤_};
 ghost use lib.ListN.{length};
 ghost use Rattle.prelude.specs.Bytes.{stretchBytes};
-ghost use Rattle.book.specs.Books.{entryAt};
+ghost use Rattle.book.specs.Books.{entryAt, mostBookBytes};
 ghost use Rattle.pages.specs.Pages.{pageOn, pageLineOf};
 ghost use Rattle.pages.specs.Invariants.{ReadyBook};
 ghost use Rattle.printing.specs.Printed.{pageLines, pageText};
 ghost use Rattle.printing.specs.Coded.{codedLines, codedText};
 use crate::types::Size;
 use book::entries::next_place;
+use book::settings::FIRST_RECORD;
 use days::types::DayFacts;
 use digits::puts::decimal_length;
 use falls::types::ShortMonth;
@@ -21,7 +22,7 @@ use prelude::slices::part;
 
 // The bytes of the line of the record at a place.
 fn line_size(file: &[u8], at: usize) -> usize
-    requires { ⌜ at ≤ 65535 ⌝ }
+    requires { ⌜ at ≤ mostBookBytes ⌝ }
     ensures { λ r. ⌜ r ≡ 13 + length (stretchBytes (now (file .entry)) (entryAt (now (file .entry)) at .text)) ⌝ }
 {
     let s = text_of(file, at);
@@ -36,7 +37,7 @@ fn measure(file: &[u8], c: ShortMonth, a: Ready) -> Size
     ensures { λ r. ⌜ r .bytes ≡ length (pageLines (now (file .entry)) (map pageLineOf (pageOn c (a .facts) (now (file .entry))))) ⌝ }
 {
     let f = a.facts;
-    let mut at: usize = 12;
+    let mut at: usize = FIRST_RECORD;
     let mut n: usize = 0;
     let mut lines: usize = 0;
     let mut bytes: usize = 0;

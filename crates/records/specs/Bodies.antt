@@ -6,13 +6,13 @@ use mathlib.Core.List.{List}
 use lib.ListN.{length}
 use Rattle.prelude.specs.Choice.{ifLt, ifEq, ifB}
 use Rattle.prelude.specs.Refusals.{badLength, badField, badText}
-use Rattle.texts.specs.Notes.{noZero, noteOk}
+use Rattle.texts.specs.Notes.{noZero, noteOk, mostText}
 use Rattle.records.specs.Fields.{datedOf, weeklyOf, monthlyByDateOf, monthlyByPositionOf, yearlyOf, toDoOf, fixedOf, textLength, noteLength, bodyText, bodyNote}
 use Rattle.records.specs.Ranges.{datedOk, weeklyOk, monthlyByDateOk, monthlyByPositionOk, yearlyOk, toDoOk, checkOffClean}
 
 -- "L below the fixed bytes, text over 27, or fixed + text + note over L"
 unfoldable pub lengthsFit : ℕ → ℕ → ℕ → ℕ → Bool
-lengthsFit l fixed text note = ifLt l fixed false (ifLt 27 text false (ifLt l (fixed + text + note) false true))
+lengthsFit l fixed text note = ifLt l fixed false (ifLt mostText text false (ifLt l (fixed + text + note) false true))
 
 unfoldable pub lengthsOk : ℕ → List ℕ → Bool
 lengthsOk t p = lengthsFit (length p) (fixedOf t) (textLength t p) (noteLength t p)

@@ -6,6 +6,7 @@ use mathlib.Core.List.{List}
 use Rattle.prelude.specs.Choice.{ifLt, ifEq, ifB}
 use Rattle.prelude.specs.Bytes.{byte}
 use Rattle.days.specs.Dates.{monthLength, real, before}
+use Rattle.days.specs.Days.{lastMinute}
 use Rattle.records.specs.Fields.{bit1}
 use Rattle.records.specs.declared.types.Dated.{Dated}
 use Rattle.records.specs.declared.types.Repeat.{Repeat}
@@ -17,10 +18,14 @@ use Rattle.records.specs.declared.types.CheckOff.{CheckOff}
 use Rattle.records.specs.declared.types.ToDo.{ToDo}
 use Rattle.records.specs.declared.types.Record.{Record}
 
+-- "Lead 0..30."
+abbrev pub mostLead : ℕ
+mostLead = 30
+
 -- "Minutes 0..1,439, end not before start. Lead 0..30."
 unfoldable pub timesOk : ℕ → ℕ → ℕ → Bool
 timesOk start end lead =
-    ifLt 1439 start false (ifLt 1439 end false (ifLt end start false (ifLt 30 lead false true)))
+    ifLt lastMinute start false (ifLt lastMinute end false (ifLt end start false (ifLt mostLead lead false true)))
 
 -- "dates are real, 1980 to 2099"
 unfoldable pub datedOk : Dated → Bool

@@ -26,6 +26,7 @@ use prelude::refusals::BAD_FIELD;
 use prelude::refusals::BAD_LENGTH;
 use prelude::refusals::BAD_TEXT;
 use prelude::slices::word_in;
+use texts::rules::MOST_TEXT;
 use texts::rules::no_zero;
 use texts::rules::note_ok_at;
 
@@ -76,7 +77,7 @@ pub fn judge_body(t: u8, p: &[u8]) -> u32
     }
     let text = wide_size(p[fixed - 3]);
     let note = word_in(p, fixed - 2) as usize;
-    if 27 < text {
+    if MOST_TEXT < text {
         return BAD_LENGTH;
     }
     if p.len() - fixed < text + note {

@@ -14,21 +14,24 @@ use crate::types::Yearly;
 use days::dates::before;
 use days::dates::is_real;
 use days::dates::month_days;
+use days::types::LAST_MINUTE;
 use prelude::slices::byte;
+
+pub const MOST_LEAD: u16 = 30;
 
 fn times_ok(start: u16, end: u16, lead: u16) -> bool
     ensures { λ r. ⌜ r ≡ timesOk start end lead ⌝ }
 {
-    if 1439 < start {
+    if LAST_MINUTE < start {
         return false;
     }
-    if 1439 < end {
+    if LAST_MINUTE < end {
         return false;
     }
     if end < start {
         return false;
     }
-    if 30 < lead {
+    if MOST_LEAD < lead {
         return false;
     }
     true

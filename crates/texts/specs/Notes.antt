@@ -6,6 +6,19 @@ use mathlib.Core.List.{List, [], _∷_}
 use lib.ListN.{length}
 use Rattle.prelude.specs.Choice.{ifLt, ifEq}
 
+-- "Text: at most 27 bytes .. Note: at most 440 bytes; .. at most 11 lines of at most 39 bytes"
+abbrev pub mostText : ℕ
+mostText = 27
+
+abbrev pub mostNote : ℕ
+mostNote = 440
+
+abbrev pub mostLines : ℕ
+mostLines = 11
+
+abbrev pub mostLine : ℕ
+mostLine = 39
+
 -- "Text: .. no zero byte."
 unfoldable pub noZero : List ℕ → Bool
 noZero [] = true
@@ -24,8 +37,8 @@ linesOf (x ∷ xs) = ifEq x 0 ([] ∷ linesOf xs) (inFront x (linesOf xs))
 -- "lines of at most 39 bytes"
 unfoldable pub shortLines : List (List ℕ) → Bool
 shortLines [] = true
-shortLines (l ∷ ls) = ifLt 39 (length l) false (shortLines ls)
+shortLines (l ∷ ls) = ifLt mostLine (length l) false (shortLines ls)
 
 -- "Note: at most 440 bytes; .. at most 11 lines of at most 39 bytes"
 unfoldable pub noteOk : List ℕ → Bool
-noteOk n = ifLt 440 (length n) false (ifLt 11 (length (linesOf n)) false (shortLines (linesOf n)))
+noteOk n = ifLt mostNote (length n) false (ifLt mostLines (length (linesOf n)) false (shortLines (linesOf n)))

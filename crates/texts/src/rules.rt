@@ -4,8 +4,16 @@ ghost use mathlib.Core.Path.{_≡_};
 ghost use lib.Dec.{leb};
 ghost use lib.ListN.{length};
 ghost use Rattle.prelude.specs.Bytes.{part};
-ghost use Rattle.texts.specs.Notes.{noZero, linesOf, shortLines, noteOk};
+ghost use Rattle.texts.specs.Notes.{noZero, linesOf, shortLines, noteOk, mostNote, mostLine, mostLines};
 ghost use Rattle.texts.specs.Invariants.{PastZero};
+
+pub const MOST_TEXT: usize = 27;
+
+const MOST_NOTE: usize = 440;
+
+const MOST_LINES: usize = 11;
+
+const MOST_LINE: usize = 39;
 
 // Whether a text has no zero byte.
 pub fn no_zero(s: &[u8]) -> bool
@@ -24,8 +32,8 @@ pub fn no_zero(s: &[u8]) -> bool
 // Whether a note has at most 11 lines: each zero before its last byte begins one more.
 fn few_lines(s: &[u8]) -> bool
     requires { ⌜ 0 < length (now s) ⌝ }
-    requires { ⌜ length (now s) ≤ 440 ⌝ }
-    ensures { λ r. ⌜ r ≡ leb (length (linesOf (now (s .entry)))) 11 ⌝ }
+    requires { ⌜ length (now s) ≤ mostNote ⌝ }
+    ensures { λ r. ⌜ r ≡ leb (length (linesOf (now (s .entry)))) mostLines ⌝ }
 {
     let last = s.len() - 1;
     let mut zeros: u16 = 0;
@@ -44,7 +52,7 @@ fn few_lines(s: &[u8]) -> bool
 
 // The place behind the last zero of the 40 bytes from `start` on; `start` where they have none.
 fn past_zero(s: &[u8], start: usize) -> usize
-    requires { ⌜ start + 39 < length (now s) ⌝ }
+    requires { ⌜ start + mostLine < length (now s) ⌝ }
     ensures { λ p. ⌜ PastZero (now (s .entry)) start p ⌝ }
 {
     let mut k: usize = 40;
@@ -59,11 +67,11 @@ fn past_zero(s: &[u8], start: usize) -> usize
 
 // Whether each line has at most 39 bytes: from a line's start on, every 40 bytes have a zero.
 fn short_lines(s: &[u8]) -> bool
-    requires { ⌜ length (now s) ≤ 440 ⌝ }
+    requires { ⌜ length (now s) ≤ mostNote ⌝ }
     ensures { λ r. ⌜ r ≡ shortLines (linesOf (now (s .entry))) ⌝ }
 {
     let mut start = 0;
-    while start + 39 < s.len() {
+    while start + MOST_LINE < s.len() {
         let next = past_zero(s, start);
         if next == start {
             return false;
@@ -76,7 +84,7 @@ fn short_lines(s: &[u8]) -> bool
 // Whether the lines of a note are by its rule.
 fn lines_ok(s: &[u8]) -> bool
     requires { ⌜ 0 < length (now s) ⌝ }
-    requires { ⌜ length (now s) ≤ 440 ⌝ }
+    requires { ⌜ length (now s) ≤ mostNote ⌝ }
     ensures { λ r. ⌜ r ≡ noteOk (now (s .entry)) ⌝ }
 {
     if few_lines(s) {
@@ -89,10 +97,10 @@ fn lines_ok(s: &[u8]) -> bool
 pub fn note_ok(s: &[u8]) -> bool
     ensures { λ r. ⌜ r ≡ noteOk (now (s .entry)) ⌝ }
 {
-    if s.len() <= 11 {
+    if s.len() <= MOST_LINES {
         return true;
     }
-    if 440 < s.len() {
+    if MOST_NOTE < s.len() {
         return false;
     }
     lines_ok(s)
@@ -103,10 +111,10 @@ pub fn note_ok_at(p: &[u8], at: usize, n: usize) -> bool
     requires { ⌜ at + n ≤ length (now p) ⌝ }
     ensures { λ r. ⌜ r ≡ noteOk (part (now (p .entry)) at n) ⌝ }
 {
-    if n <= 11 {
+    if n <= MOST_LINES {
         return true;
     }
-    if 440 < n {
+    if MOST_NOTE < n {
         return false;
     }
     let end = at + n;

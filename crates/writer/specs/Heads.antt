@@ -6,6 +6,7 @@ use mathlib.Core.List.{List, _∷_, _++_}
 use lib.ListN.{length}
 use Rattle.prelude.specs.Bytes.{bit, le16}
 use Rattle.prelude.specs.Splice.{splice}
+use Rattle.texts.specs.Notes.{mostText, mostNote}
 use Rattle.records.specs.Fields.{fixedOf}
 use Rattle.records.specs.Encoding.{dateBytes, fromStart, fixedBytes, typeOf}
 use Rattle.records.specs.Invariants.{ThreeBytes}
@@ -53,8 +54,8 @@ toDoHead d mark y m day t n =
 
 -- the lengths that text and note have when their rules hold
 pub record Lengths (text note : List ℕ) : Type 0 where
-  pub text-most : length text ≤ 27
-  pub note-most : length note ≤ 440
+  pub text-most : length text ≤ mostText
+  pub note-most : length note ≤ mostNote
 
 -- a call that put bytes at a place: the next place, and the buffer in the end
 pub record Put (at : ℕ) (bytes before : List ℕ) (r : ℕ) (after : List ℕ) : Type 0 where

@@ -7,12 +7,13 @@ use mathlib.Core.List.{List, [], _∷_, _++_}
 use lib.ListN.{length, take}
 use Rattle.prelude.specs.Splice.{splice}
 use Rattle.prelude.specs.declared.refusals.Refusal.{Refusal}
-use Rattle.texts.specs.Notes.{noZero, noteOk}
+use Rattle.texts.specs.Notes.{noZero, noteOk, mostText}
 use Rattle.records.specs.Ranges.{recordOk}
 use Rattle.records.specs.Encoding.{encode}
 use Rattle.records.specs.declared.types.Record.{Record}
 use Rattle.book.specs.Settings.{settingsInRange}
 use Rattle.book.specs.declared.types.Settings.{Settings}
+use Rattle.book.specs.Books.{mostBookBytes}
 use Rattle.writer.specs.Writing.{openBytes, endBytes, openGives, openLeaves, addGives, addLeaves, closeGives, closeLeaves}
 use Rattle.writer.specs.declared.types.Writer.{Writer}
 use Rattle.writer.specs.declared.types.WriteAnswer.{WriteAnswer}
@@ -70,7 +71,7 @@ bookBytes s is = openBytes s ++ restBytes is
 
 -- an item without a fault
 pub record Fine (i : Item) : Type 0 where
-  pub short : length (i .text) ≤ 27
+  pub short : length (i .text) ≤ mostText
   pub ranged : recordOk (i .kind) ≡ true
   pub clean : noZero (i .text) ≡ true
   pub ruled : noteOk (i .note) ≡ true
@@ -87,4 +88,4 @@ pub record Written (s : Settings) (is : List Item) (b : List ℕ) (w : Writer) (
   pub buffer : b′ ≡ splice b 0 (bookBytes s is)
   pub book : take (w .used) b′ ≡ bookBytes s is
   pub room : length (bookBytes s is) ≤ length b
-  pub size : length (bookBytes s is) ≤ 65535
+  pub size : length (bookBytes s is) ≤ mostBookBytes

@@ -8,12 +8,13 @@ use Rattle.prelude.specs.Choice.{ifLt, ifEq, ifB}
 use Rattle.prelude.specs.Bytes.{bit, le16}
 use Rattle.prelude.specs.Splice.{splice}
 use Rattle.prelude.specs.Refusals.{badSettings, badLength, badField, badText, noRoom, notOpen, refusal}
-use Rattle.texts.specs.Notes.{noZero, noteOk}
+use Rattle.texts.specs.Notes.{noZero, noteOk, mostText}
 use Rattle.records.specs.Ranges.{recordOk}
 use Rattle.records.specs.Encoding.{encode}
 use Rattle.records.specs.declared.types.Record.{Record}
-use Rattle.book.specs.Settings.{settingsInRange}
+use Rattle.book.specs.Settings.{settingsInRange, firstRecord}
 use Rattle.book.specs.declared.types.Settings.{Settings}
+use Rattle.book.specs.Books.{mostBookBytes}
 use Rattle.writer.specs.declared.types.Writer.{Writer}
 use Rattle.writer.specs.declared.types.WriteAnswer.{WriteAnswer}
 
@@ -35,24 +36,24 @@ unfoldable pub openRefusal : Settings → ℕ → ℕ
 openRefusal s size = ifB (settingsInRange s) (ifLt size 15 noRoom 0) badSettings
 
 unfoldable pub openGives : Settings → ℕ → WriteAnswer
-openGives s size = givesWhere (openRefusal s size) (record { used = 12; closed = false }) (record { used = 0; closed = false })
+openGives s size = givesWhere (openRefusal s size) (record { used = firstRecord; closed = false }) (record { used = 0; closed = false })
 
 unfoldable pub openLeaves : Settings → List ℕ → List ℕ
 openLeaves s b = leavesWhere (openRefusal s (length b)) b 0 (openBytes s)
 
 -- "used + record + 3 exceeds the buffer or 65,535"
 unfoldable pub roomRefusal : ℕ → ℕ → ℕ
-roomRefusal size end = ifLt size (end + 3) noRoom (ifLt 65535 (end + 3) noRoom 0)
+roomRefusal size end = ifLt size (end + 3) noRoom (ifLt mostBookBytes (end + 3) noRoom 0)
 
 -- "used below 12 counts as not opened"
 unfoldable pub stateOpen : Writer → Bool
-stateOpen w = ifLt (w .used) 12 false (ifB (w .closed) false true)
+stateOpen w = ifLt (w .used) firstRecord false (ifB (w .closed) false true)
 
 -- "add (14, 6, 7, 8, 12)"; "Added texts over 27 give 6"
 unfoldable pub addRefusal : Writer → ℕ → Record → List ℕ → List ℕ → ℕ
 addRefusal w size r text note =
     ifB (stateOpen w)
-    (ifLt 27 (length text) badLength
+    (ifLt mostText (length text) badLength
     (ifB (recordOk r)
     (ifB (noZero text)
     (ifB (noteOk note) (roomRefusal size (w .used + length (encode r text note))) badText)

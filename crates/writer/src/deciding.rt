@@ -5,11 +5,14 @@ ghost use lib.ListN.{length};
 ghost use Rattle.prelude.specs.Choice.{ifB, ifLt};
 ghost use Rattle.prelude.specs.Refusals.{badText};
 ghost use Rattle.records.specs.Fields.{fixedOf};
-ghost use Rattle.texts.specs.Notes.{noZero, noteOk};
+ghost use Rattle.texts.specs.Notes.{noZero, noteOk, mostText};
 ghost use Rattle.records.specs.Encoding.{typeOf, encode};
+ghost use Rattle.book.specs.Books.{mostBookBytes};
 ghost use Rattle.writer.specs.Writing.{openRefusal, roomRefusal, stateOpen, addRefusal, closeRefusal};
 use crate::types::Writer;
+use book::settings::FIRST_RECORD;
 use book::settings::settings_in_range;
+use book::types::MOST_BOOK_BYTES;
 use book::types::Settings;
 use prelude::refusals::BAD_FIELD;
 use prelude::refusals::BAD_LENGTH;
@@ -19,6 +22,7 @@ use prelude::refusals::NO_ROOM;
 use prelude::refusals::NOT_OPEN;
 use records::ranges::record_ok;
 use records::types::Record;
+use texts::rules::MOST_TEXT;
 use texts::rules::no_zero;
 use texts::rules::note_ok;
 
@@ -37,7 +41,7 @@ pub fn open_refusal(s: Settings, size: usize) -> u32
 fn is_open(w: Writer) -> bool
     ensures { λ r. ⌜ r ≡ stateOpen w ⌝ }
 {
-    if w.used < 12 {
+    if w.used < FIRST_RECORD {
         return false;
     }
     if w.closed {
@@ -48,12 +52,12 @@ fn is_open(w: Writer) -> bool
 
 // The greatest length of a book in a buffer of a size.
 fn longest_in(size: usize) -> usize
-    ensures { λ r. ⌜ r ≡ ifLt size 65535 size 65535 ⌝ }
+    ensures { λ r. ⌜ r ≡ ifLt size mostBookBytes size mostBookBytes ⌝ }
 {
-    if size < 65535 {
+    if size < MOST_BOOK_BYTES {
         return size;
     }
-    65535
+    MOST_BOOK_BYTES
 }
 
 // 12 where the bytes used, some more and the end record exceed the buffer or 65,535.
@@ -61,7 +65,7 @@ fn room_refusal(size: usize, used: usize, more: usize) -> u32
     requires { ⌜ more ≤ 1000 ⌝ }
     ensures { λ r. ⌜ r ≡ roomRefusal size (used + more) ⌝ }
 {
-    if 65535 < used {
+    if MOST_BOOK_BYTES < used {
         return NO_ROOM;
     }
     let end = used + more + 3;
@@ -86,7 +90,7 @@ fn fixed_size(r: Record) -> usize
 
 // What is asked of text, note and room.
 fn texts_refusal(used: usize, size: usize, r: Record, text: &[u8], note: &[u8]) -> u32
-    requires { ⌜ length (now text) ≤ 27 ⌝ }
+    requires { ⌜ length (now text) ≤ mostText ⌝ }
     ensures { λ z.
         ⌜ z ≡
         ifB (noZero (now (text .entry)))
@@ -108,7 +112,7 @@ pub fn add_refusal(w: Writer, size: usize, r: Record, text: &[u8], note: &[u8]) 
     ensures { λ z. ⌜ z ≡ addRefusal w size r (now (text .entry)) (now (note .entry)) ⌝ }
 {
     if is_open(w) {
-        if 27 < text.len() {
+        if MOST_TEXT < text.len() {
             return BAD_LENGTH;
         }
         if record_ok(r) {

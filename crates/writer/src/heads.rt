@@ -1,6 +1,7 @@
 // The head and the fixed bytes of each kind of record, as one array.
 ghost use mathlib.Core.Path.{_≡_};
 ghost use Prim.Native.Nat.{_≤_, _<_};
+ghost use Rattle.texts.specs.Notes.{mostText, mostNote};
 ghost use Rattle.records.specs.declared.types.Record.{Record};
 ghost use Rattle.writer.specs.Heads.{recordHead, shortHead, longHead, toDoHead, DatedFit, RepeatFit, ToDoFit};
 use crate::bytes::small;
@@ -15,8 +16,8 @@ use records::types::ToDo;
 
 pub fn dated_head(d: Dated, t: u16, n: u16) -> [u8; 15]
     requires { ⌜ DatedFit d ⌝ }
-    requires { ⌜ t ≤ 27 ⌝ }
-    requires { ⌜ n ≤ 440 ⌝ }
+    requires { ⌜ t ≤ mostText ⌝ }
+    requires { ⌜ n ≤ mostNote ⌝ }
     ensures { λ r. ⌜ r ≡ recordHead (Record.Dated d) t n ⌝ }
 {
     let l = 12 + t + n;
@@ -43,8 +44,8 @@ pub fn dated_head(d: Dated, t: u16, n: u16) -> [u8; 15]
 pub fn short_head(kind: u8, a: u16, r: Repeat, t: u16, n: u16) -> [u8; 19]
     requires { ⌜ RepeatFit r ⌝ }
     requires { ⌜ a < 256 ⌝ }
-    requires { ⌜ t ≤ 27 ⌝ }
-    requires { ⌜ n ≤ 440 ⌝ }
+    requires { ⌜ t ≤ mostText ⌝ }
+    requires { ⌜ n ≤ mostNote ⌝ }
     ensures { λ z. ⌜ z ≡ shortHead kind a r t n ⌝ }
 {
     let l = 16 + t + n;
@@ -76,8 +77,8 @@ pub fn long_head(kind: u8, a: u16, b: u16, r: Repeat, t: u16, n: u16) -> [u8; 20
     requires { ⌜ RepeatFit r ⌝ }
     requires { ⌜ a < 256 ⌝ }
     requires { ⌜ b < 256 ⌝ }
-    requires { ⌜ t ≤ 27 ⌝ }
-    requires { ⌜ n ≤ 440 ⌝ }
+    requires { ⌜ t ≤ mostText ⌝ }
+    requires { ⌜ n ≤ mostNote ⌝ }
     ensures { λ z. ⌜ z ≡ longHead kind a b r t n ⌝ }
 {
     let l = 17 + t + n;
@@ -108,8 +109,8 @@ pub fn long_head(kind: u8, a: u16, b: u16, r: Repeat, t: u16, n: u16) -> [u8; 20
 fn to_do_bytes(d: ToDo, bit: u8, y: u8, m: u8, day: u8, t: u16, n: u16) -> [u8; 14]
     requires { ⌜ ToDoFit d ⌝ }
     requires { ⌜ bit ≤ 2 ⌝ }
-    requires { ⌜ t ≤ 27 ⌝ }
-    requires { ⌜ n ≤ 440 ⌝ }
+    requires { ⌜ t ≤ mostText ⌝ }
+    requires { ⌜ n ≤ mostNote ⌝ }
     ensures { λ r. ⌜ r ≡ toDoHead d bit y m day t n ⌝ }
 {
     let l = 11 + t + n;
@@ -134,8 +135,8 @@ fn to_do_bytes(d: ToDo, bit: u8, y: u8, m: u8, day: u8, t: u16, n: u16) -> [u8; 
 
 pub fn to_do_head(d: ToDo, t: u16, n: u16) -> [u8; 14]
     requires { ⌜ ToDoFit d ⌝ }
-    requires { ⌜ t ≤ 27 ⌝ }
-    requires { ⌜ n ≤ 440 ⌝ }
+    requires { ⌜ t ≤ mostText ⌝ }
+    requires { ⌜ n ≤ mostNote ⌝ }
     ensures { λ r. ⌜ r ≡ recordHead (Record.ToDo d) t n ⌝ }
 {
     let c = d.check_off;

@@ -11,7 +11,7 @@ use Rattle.prelude.specs.Laws.Choice.{is-ge}
 use Rattle.prelude.specs.Bytes.{byte, part, stretchBytes}
 use Rattle.prelude.specs.Laws.Bytes.{part-part}
 use Rattle.prelude.specs.declared.slices.Stretch.{Stretch}
-use Rattle.book.specs.Settings.{bookIdentified, settingsOf, settingsOk}
+use Rattle.book.specs.Settings.{bookIdentified, settingsOf, settingsOk, firstRecord}
 use Rattle.book.specs.Walk.{Walk, more, ended, stopped, typeAt, bodyLengthAt, bodyAt, nextPlace, stepAt, walkFrom}
 use Rattle.book.specs.Fillers.{endIn}
 use Rattle.book.specs.Books.{counted, entryAt}
@@ -69,7 +69,7 @@ module _ (m : ℕ) (f g : List ℕ) (s : Alike m f g) where
       entry-alike = rw (type-alike, body-alike)
 
   -- the first twelve bytes
-  module _ (h : 12 ≤ m) where
+  module _ (h : firstRecord ≤ m) where
     pub named-alike : bookIdentified g ≡ bookIdentified f
     unfolding bookIdentified
     named-alike =
@@ -83,8 +83,8 @@ module _ (m : ℕ) (f g : List ℕ) (s : Alike m f g) where
     pub settings-ok-alike : settingsOk g ≡ settingsOk f
     unfolding settingsOk
     settings-ok-alike =
-        let l : 12 ≤ length f = omega (arith, s .left) in
-        let r : 12 ≤ length g = omega (arith, s .right) in
+        let l : firstRecord ≤ length f = omega (arith, s .left) in
+        let r : firstRecord ≤ length g = omega (arith, s .right) in
         rw (is-ge l, is-ge r, settings-alike, byte-alike 9 (omega arith), byte-alike 11 (omega arith))
 
   -- the walk, to the same end

@@ -11,10 +11,10 @@ use lib.Seq.{drop-cons}
 use Rattle.prelude.specs.Laws.Choice.{lt-skip, b-take}
 use Rattle.prelude.specs.declared.refusals.Verdict.{Verdict}
 use Rattle.prelude.specs.declared.refusals.Refusal.{Refusal}
-use Rattle.book.specs.Settings.{bookIdentified, settingsOf, settingsOk}
+use Rattle.book.specs.Settings.{bookIdentified, settingsOf, settingsOk, firstRecord}
 use Rattle.book.specs.Walk.{nextPlace, stepAt, Walk, more, ended, stopped, walkFrom, walkOf, placesIn}
 use Rattle.book.specs.Fillers.{afterEndRecord}
-use Rattle.book.specs.Books.{accepted, counted, bookOf, placesOf}
+use Rattle.book.specs.Books.{accepted, counted, bookOf, placesOf, mostBookBytes}
 use Rattle.book.specs.Laws.Walk.{At, at-first, at-next, step-record, walk-record, walk-end, walk-stop}
 use Rattle.book.specs.Invariants.{RecordAt, AcceptedBook}
 use Rattle.book.specs.declared.types.Settings.{Settings}
@@ -43,14 +43,14 @@ counted-accepted f n (ended m) b e =
     let h = given (settingsOf f) n (afterEndRecord f m) b e in (h .0, h .1 ∙ sym (add-zero n))
 counted-accepted f n (stopped r) b e = absurd (refused-not e)
 
-pub settings-long : (f : List ℕ) → settingsOk f ≡ true → 12 ≤ length f
+pub settings-long : (f : List ℕ) → settingsOk f ≡ true → firstRecord ≤ length f
 unfolding settingsOk
-settings-long f e = lt-skip (length f) 12 _ _ false≢true e .0
+settings-long f e = lt-skip (length f) firstRecord _ _ false≢true e .0
 
 pub book-accepted : (f : List ℕ) {b : Book} → bookOf f ≡ BookAnswer.Accepted b → AcceptedBook f b
 unfolding bookOf placesOf
 book-accepted f {b} e =
-    let e1 = lt-skip 65535 (length f) _ _ refused-not e in
+    let e1 = lt-skip mostBookBytes (length f) _ _ refused-not e in
     let e2 = b-take (bookIdentified f) _ _ refused-not (e1 .1) in
     let e3 = b-take (settingsOk f) _ _ refused-not (e2 .1) in
     let h = counted-accepted f 0 (walkOf f) b (e3 .1) in
@@ -67,7 +67,7 @@ book-accepted f {b} e =
 pub walk-counted : (f : List ℕ) {b : Book} → bookOf f ≡ BookAnswer.Accepted b → counted f 0 (walkOf f) ≡ BookAnswer.Accepted b
 unfolding bookOf
 walk-counted f h =
-    let e1 = lt-skip 65535 (length f) _ _ refused-not h in
+    let e1 = lt-skip mostBookBytes (length f) _ _ refused-not h in
     let e2 = b-take (bookIdentified f) _ _ refused-not (e1 .1) in
     b-take (settingsOk f) _ _ refused-not (e2 .1) .1
 
@@ -76,7 +76,7 @@ pub record Cursor (f : List ℕ) (n at : ℕ) : Type 0 where
   pub here : At f n at
   pub ahead : drop n (placesOf f) ≡ placesIn (walkFrom f n at)
 
-pub cursor-first : (f : List ℕ) → 12 ≤ length f → Cursor f 0 12
+pub cursor-first : (f : List ℕ) → firstRecord ≤ length f → Cursor f 0 firstRecord
 unfolding placesOf walkOf
 cursor-first f h = record { here = at-first h; ahead = refl }
 

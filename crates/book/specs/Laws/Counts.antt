@@ -10,6 +10,7 @@ use Rattle.book.specs.Walk.{typeAt, bodyLengthAt, bodyAt, nextPlace}
 use Rattle.book.specs.Books.{placesOf}
 use Rattle.book.specs.Invariants.{RecordAt}
 use Rattle.book.specs.Laws.Books.{Cursor, cursor-first, Ahead, cursor-ahead}
+use Rattle.book.specs.Settings.{firstRecord}
 
 -- head and fixed bytes
 record-bytes : (f : List ℕ) (at : ℕ) → RecordAt f at → 11 ≤ bodyLengthAt f at
@@ -23,17 +24,17 @@ record-bytes f at r =
 record Spaced (f : List ℕ) (n : ℕ) : Type 0 where
   at : ℕ
   cursor : Cursor f n at
-  behind : 12 + 14 * n ≤ at
+  behind : firstRecord + 14 * n ≤ at
 
-spaced : (f : List ℕ) → 12 ≤ length f → (n : ℕ) → n ≤ length (placesOf f) → Spaced f n
-spaced f h zero l = record { at = 12; cursor = cursor-first f h; behind = omega arith }
+spaced : (f : List ℕ) → firstRecord ≤ length f → (n : ℕ) → n ≤ length (placesOf f) → Spaced f n
+spaced f h zero l = record { at = firstRecord; cursor = cursor-first f h; behind = omega arith }
 spaced f h (suc n) l =
     let r : Spaced f n = spaced f h n (omega arith) in
     let a : Ahead f n (r .at) = cursor-ahead f n (r .at) (r .cursor) l in
     let b : 11 ≤ bodyLengthAt f (r .at) = record-bytes f (r .at) (a .entry) in
     record { at = nextPlace f (r .at); cursor = a .next; behind = omega (arith, r .behind) }
 
-pub count-most : (f : List ℕ) → 12 ≤ length f → 12 + 14 * length (placesOf f) ≤ length f
+pub count-most : (f : List ℕ) → firstRecord ≤ length f → firstRecord + 14 * length (placesOf f) ≤ length f
 count-most f h =
     let r : Spaced f (length (placesOf f)) = spaced f h (length (placesOf f)) (omega arith) in
     omega (arith, r .behind, r .cursor .here .high)

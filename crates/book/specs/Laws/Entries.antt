@@ -16,20 +16,21 @@ use Rattle.book.specs.Laws.Books.{book-accepted, Cursor, cursor-first, A
 use Rattle.book.specs.declared.types.BookAnswer.{BookAnswer}
 use Rattle.book.specs.declared.types.Entry.{Entry}
 use Rattle.book.specs.declared.types.RecordAnswer.{RecordAnswer}
+use Rattle.book.specs.Settings.{firstRecord}
 
 -- a cursor for each record
 pub record Reached (f : List ℕ) (n : ℕ) : Type 0 where
   pub at : ℕ
   pub cursor : Cursor f n at
 
-pub entry-reached : (f : List ℕ) → 12 ≤ length f → (n : ℕ) → n ≤ length (placesOf f) → Reached f n
-entry-reached f h zero l = record { at = 12; cursor = cursor-first f h }
+pub entry-reached : (f : List ℕ) → firstRecord ≤ length f → (n : ℕ) → n ≤ length (placesOf f) → Reached f n
+entry-reached f h zero l = record { at = firstRecord; cursor = cursor-first f h }
 entry-reached f h (suc n) l =
     let r : Reached f n = entry-reached f h n (omega arith) in
     record { at = nextPlace f (r .at); cursor = cursor-ahead f n (r .at) (r .cursor) l .next }
 
 -- the n-th record's place holds a record that was judged fine
-pub record-there : (f : List ℕ) → 12 ≤ length f → (n : ℕ) → n < length (placesOf f) → RecordAt f (getD (placesOf f) n 0)
+pub record-there : (f : List ℕ) → firstRecord ≤ length f → (n : ℕ) → n < length (placesOf f) → RecordAt f (getD (placesOf f) n 0)
 record-there f h n l =
     let r : Reached f n = entry-reached f h n (omega arith) in
     let a : Ahead f n (r .at) = cursor-ahead f n (r .at) (r .cursor) l in
@@ -74,7 +75,7 @@ record-inj e = cc
 
 -- which record an answer gives
 pub record FoundEntry (f : List ℕ) (k : ℕ) (e : Entry) : Type 0 where
-  pub long : 12 ≤ length f
+  pub long : firstRecord ≤ length f
   pub number : k < length (placesOf f)
   pub entry : entryAt f (getD (placesOf f) k 0) ≡ e
 

@@ -13,7 +13,7 @@ use Rattle.prelude.specs.Bytes.{byte}
 use Rattle.prelude.specs.Refusals.{afterEnd, refusalAt}
 use Rattle.prelude.specs.Laws.Refusals.{verdict-not}
 use Rattle.prelude.specs.declared.refusals.Verdict.{Verdict}
-use Rattle.book.specs.Settings.{settingsOf}
+use Rattle.book.specs.Settings.{settingsOf, firstRecord}
 use Rattle.book.specs.Walk.{Walk, more, ended, stopped, nextPlace, walkFrom, walkOf}
 use Rattle.book.specs.Fillers.{filler, mostFillers, fillersFrom, afterEndRecord, endIn, fillersOf, unfilled, Filled}
 use Rattle.book.specs.Books.{accepted, counted, bookOf}
@@ -84,15 +84,15 @@ walk-ended f n at a (ended p) e c =
     record { behind = omega (arith, m .1); inside = omega (arith, m .1, m .0 .there); fine = fine-only (settingsOf f) n _ c }
 walk-ended f n at a (stopped r) e c = absurd (refused-not c)
 
-pub book-ended : (f : List ℕ) {b : Book} → bookOf f ≡ BookAnswer.Accepted b → Ended f 12 (walkOf f)
+pub book-ended : (f : List ℕ) {b : Book} → bookOf f ≡ BookAnswer.Accepted b → Ended f firstRecord (walkOf f)
 unfolding walkOf
-book-ended f h = walk-ended f 0 12 (at-first (book-accepted f h .long)) (walkOf f) refl (walk-counted f h)
+book-ended f h = walk-ended f 0 firstRecord (at-first (book-accepted f h .long)) (walkOf f) refl (walk-counted f h)
 
 -- what an accepted book is
 pub book-filled : (f : List ℕ) {b : Book} → bookOf f ≡ BookAnswer.Accepted b → Filled f
 unfolding unfilled fillersOf afterEndRecord
 book-filled f h =
-    let e : Ended f 12 (walkOf f) = book-ended f h in
+    let e : Ended f firstRecord (walkOf f) = book-ended f h in
     let q = lt-skip mostFillers (length f - endIn (walkOf f)) _ _ verdict-not (e .fine) in
     let r : drop (endIn (walkOf f)) f ≡ replicate (length f - endIn (walkOf f)) filler = fine-fillers f _ _ (omega (arith, e .inside)) (q .1) in
     record {

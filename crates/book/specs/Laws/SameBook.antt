@@ -11,10 +11,10 @@ use lib.Seq.{length-take-le, take-take, take-append-le, drop-at}
 use Rattle.prelude.specs.Laws.Choice.{is-ge, is-true}
 use Rattle.prelude.specs.Laws.Members.{map-same}
 use Rattle.prelude.specs.declared.refusals.Verdict.{Verdict}
-use Rattle.book.specs.Settings.{bookIdentified, settingsOf, settingsOk}
+use Rattle.book.specs.Settings.{bookIdentified, settingsOf, settingsOk, firstRecord}
 use Rattle.book.specs.Walk.{Walk, more, ended, stopped, nextPlace, walkFrom, walkOf, placesIn}
 use Rattle.book.specs.Fillers.{filler, mostFillers, afterEndRecord, endIn, fillersOf, unfilled}
-use Rattle.book.specs.Books.{counted, bookOf, entryAt, entriesOf, placesOf}
+use Rattle.book.specs.Books.{counted, bookOf, entryAt, entriesOf, placesOf, mostBookBytes}
 use Rattle.book.specs.Laws.Walk.{At, at-first, walk-met}
 use Rattle.book.specs.Invariants.{RecordAt, AcceptedBook}
 use Rattle.book.specs.Laws.Books.{book-accepted, walk-counted}
@@ -50,15 +50,15 @@ places-inside f n at a (stopped r) e c x i = absurd (List·Memᴰ·not-nil i)
 pub book-places :
     (f : List ℕ) {b : Book} → bookOf f ≡ BookAnswer.Accepted b → (x : ℕ) → List·Memᴰ x (placesOf f) → RecordAt f x × (nextPlace f x ≤ endIn (walkOf f))
 unfolding placesOf walkOf
-book-places f h = places-inside f 0 12 (at-first (book-accepted f h .long)) (walkOf f) refl (walk-counted f h)
+book-places f h = places-inside f 0 firstRecord (at-first (book-accepted f h .long)) (walkOf f) refl (walk-counted f h)
 
 -- Two files that agree up to the end record of an accepted book, and have fillers after it.
 module _ (f g : List ℕ) {b : Book} (h : bookOf f ≡ BookAnswer.Accepted b) (s : Alike (endIn (walkOf f)) f g) where
   same-walk : walkOf g ≡ walkOf f
   unfolding walkOf
   same-walk =
-      let e : Ended f 12 (walkOf f) = book-ended f h in
-      walk-alike (endIn (walkOf f)) f g s 0 12 (at-first (book-accepted f h .long)) (at-first (omega (arith, e .behind, s .right))) (walkOf f) refl (walk-counted f h) (omega arith)
+      let e : Ended f firstRecord (walkOf f) = book-ended f h in
+      walk-alike (endIn (walkOf f)) f g s 0 firstRecord (at-first (book-accepted f h .long)) (at-first (omega (arith, e .behind, s .right))) (walkOf f) refl (walk-counted f h) (omega arith)
 
   texts-alike : (at : ℕ) → RecordAt f at → nextPlace f at ≤ endIn (walkOf f) → SameTexts f g (entryAt f at)
   texts-alike at r l =
@@ -69,10 +69,10 @@ module _ (f g : List ℕ) {b : Book} (h : bookOf f ≡ BookAnswer.Accepted b) (s
         note = stretch-alike (endIn (walkOf f)) f g s (entryAt f at .note) (omega arith);
       }
 
-  same-book : length g ≤ 65535 → afterEndRecord g (endIn (walkOf f)) ≡ Verdict.Fine → SameBook f g
+  same-book : length g ≤ mostBookBytes → afterEndRecord g (endIn (walkOf f)) ≡ Verdict.Fine → SameBook f g
   unfolding bookOf placesOf walkOf
   same-book l v =
-      let e : Ended f 12 (walkOf f) = book-ended f h in
+      let e : Ended f firstRecord (walkOf f) = book-ended f h in
       let a : AcceptedBook f b = book-accepted f h in
       let m : ℕ = endIn (walkOf f) in
       let named : bookIdentified g ≡ true = named-alike m f g s (e .behind) ∙ a .named in
@@ -115,11 +115,11 @@ module _ (f : List ℕ) {b : Book} (h : bookOf f ≡ BookAnswer.Accepted b) wher
 
 -- A book that ends with its end record, with "0 to 127 bytes, all 1Ah", after it: still the same book.
 pub filled-same :
-    (f : List ℕ) {b : Book} (k : ℕ) → bookOf f ≡ BookAnswer.Accepted b → fillersOf f ≡ 0 → k ≤ mostFillers → length f + k ≤ 65535
+    (f : List ℕ) {b : Book} (k : ℕ) → bookOf f ≡ BookAnswer.Accepted b → fillersOf f ≡ 0 → k ≤ mostFillers → length f + k ≤ mostBookBytes
     → SameBook f (f ++ replicate k filler)
 unfolding fillersOf afterEndRecord
 filled-same f k h z l m =
-    let e : Ended f 12 (walkOf f) = book-ended f h in
+    let e : Ended f firstRecord (walkOf f) = book-ended f h in
     let n : length f ≡ endIn (walkOf f) = omega (arith, e .inside) in
     let g : List ℕ = f ++ replicate k filler in
     let long : length g ≡ length f + k = length-append f (replicate k filler) ∙ ap (λ (x : ℕ). length f + x) (length-replicate k filler) in

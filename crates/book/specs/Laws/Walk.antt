@@ -12,6 +12,7 @@ use Rattle.records.specs.Bodies.{judgeBody}
 use Rattle.book.specs.Walk.{typeAt, bodyLengthAt, bodyAt, nextPlace, judgeHead, bodyStep, stepAt, Walk, more, ended, stopped, onStep, walkF, walkFrom}
 use Rattle.book.specs.Invariants.{RecordAt}
 use Rattle.book.specs.declared.types.StepAnswer.{StepAnswer}
+use Rattle.book.specs.Settings.{firstRecord}
 
 -- what a head without refusal is
 pub record HeadFine (size at t l : ℕ) : Type 0 where
@@ -97,10 +98,10 @@ module _ (f : List ℕ) (at : ℕ) where
 
 -- n records lie behind the place
 pub record At (f : List ℕ) (n at : ℕ) : Type 0 where
-  pub low : 12 + 3 * n ≤ at
+  pub low : firstRecord + 3 * n ≤ at
   pub high : at ≤ length f
 
-pub at-first : {f : List ℕ} → 12 ≤ length f → At f 0 12
+pub at-first : {f : List ℕ} → firstRecord ≤ length f → At f 0 firstRecord
 at-first h = record { low = omega arith; high = h }
 
 pub at-next : {f : List ℕ} {n at next : ℕ} → At f n at → stepAt f at ≡ StepAnswer.Record next → At f (suc n) next

@@ -9,6 +9,7 @@ use Rattle.prelude.specs.Laws.Choice.{is-lt, is-ge, is-eq, is-ne, is-true, is-f
 use Rattle.prelude.specs.Bytes.{byte}
 use Rattle.prelude.specs.Refusals.{badAppointment, refusalAt}
 use Rattle.prelude.specs.declared.refusals.Verdict.{Verdict}
+use Rattle.days.specs.Days.{lastMinute}
 use Rattle.calendar.specs.Lists.{sizeAt, flagsAt, minuteAt, nextAt, firstZero, appointmentOk, ListWalk, more, ended, stopped, listWalkF, listWalkFrom, placesInList, verdictIn}
 
 -- the first zero: of no byte, where a zero stands, where another byte does
@@ -61,7 +62,7 @@ pub record AppointmentAt (f : List ℕ) (e low at : ℕ) : Type 0 where
   pub size : 5 ≤ sizeAt f at
   pub inside : nextAt f at ≤ e
   pub flags : flagsAt f at ≤ 3
-  pub minute : minuteAt f at ≤ 1439
+  pub minute : minuteAt f at ≤ lastMinute
   pub rises : low ≤ minuteAt f at
   pub ends : firstZero (sizeAt f at - 4) f (at + 4) + 1 ≡ nextAt f at
 
@@ -72,7 +73,7 @@ module _ (f : List ℕ) (e low at : ℕ) where
       let e1 = lt-skip (sizeAt f at) 5 _ _ false≢true h in
       let e2 = lt-skip e (nextAt f at) _ _ false≢true (e1 .1) in
       let e3 = lt-skip 3 (flagsAt f at) _ _ false≢true (e2 .1) in
-      let e4 = lt-skip 1439 (minuteAt f at) _ _ false≢true (e3 .1) in
+      let e4 = lt-skip lastMinute (minuteAt f at) _ _ false≢true (e3 .1) in
       let e5 = lt-skip (minuteAt f at) low _ _ false≢true (e4 .1) in
       let e6 = eq-take (firstZero (sizeAt f at - 4) f (at + 4) + 1) (nextAt f at) _ _ false≢true (e5 .1) in
       record { size = e1 .0; inside = e2 .0; flags = e3 .0; minute = e4 .0; rises = e5 .0; ends = e6 .0 }

@@ -18,6 +18,7 @@ use Rattle.calendar.specs.Lists.{verdictIn}
 use Rattle.calendar.specs.Reader.{mostBytes, calendarIdentified, countOf, tableEnd, dayAt, offsetAt, blockAt, listEnd, tableFrom, blockOk, listOf, dayVerdict, daysFrom, calendarAnswered, calendarOf}
 use Rattle.calendar.specs.Invariants.{BlockAt, AcceptedFile}
 use Rattle.calendar.specs.declared.types.CalendarAnswer.{CalendarAnswer}
+use Rattle.calendar.specs.File.{lastBlock}
 
 answer-not : {e : Refusal} {n : ℕ} → CalendarAnswer.Refused e ≡ CalendarAnswer.Accepted n → ⊥
 answer-not c = let z : _≡_ {A = ℕ} 0 1 = cc in omega arith
@@ -44,7 +45,7 @@ module _ (f : List ℕ) (p : ℕ) where
   pub block-facts : blockOk f p ≡ true → BlockAt f p
   unfolding blockOk
   block-facts h =
-      let e1 = lt-skip 32767 (offsetAt f p) _ _ false≢true h in
+      let e1 = lt-skip lastBlock (offsetAt f p) _ _ false≢true h in
       let e2 = lt-skip (blockAt f p) (tableEnd f) _ _ false≢true (e1 .1) in
       let e3 = lt-skip (length f) (blockAt f p + 10) _ _ false≢true (e2 .1) in
       let e4 = eq-take (word f (blockAt f p)) 0 _ _ false≢true (e3 .1) in

@@ -8,7 +8,7 @@ use lib.ListN.{length}
 use Rattle.prelude.specs.Bytes.{word, le16}
 use Rattle.prelude.specs.declared.refusals.Verdict.{Verdict}
 use Rattle.days.specs.Days.{lastDay}
-use Rattle.calendar.specs.File.{Day, appointmentsBytes, blockBytes, alarms, descriptorBytes}
+use Rattle.calendar.specs.File.{Day, appointmentsBytes, blockBytes, alarms, descriptorBytes, lastBlock}
 use Rattle.calendar.specs.Lists.{placesInList}
 use Rattle.calendar.specs.Reader.{tableEnd, dayAt, offsetAt, blockAt, listPlace, listEnd, listOf, dayVerdict}
 use Rattle.calendar.specs.Shown.{appointmentAt}
@@ -70,7 +70,7 @@ pub record Described (f : List ℕ) (p u : ℕ) (d : Day) (post : List ℕ) : Ty
   pub offset : offsetAt f p ≡ u
   pub next : From f (p + 12) post
 
-pub day-described : {f : List ℕ} {p : ℕ} (u : ℕ) (d : Day) (post : List ℕ) → d .day ≤ lastDay → u ≤ 32767 → From f p (descriptorBytes u d ++ post) → Described f p u d post
+pub day-described : {f : List ℕ} {p : ℕ} (u : ℕ) (d : Day) (post : List ℕ) → d .day ≤ lastDay → u ≤ lastBlock → From f p (descriptorBytes u d ++ post) → Described f p u d post
 unfolding descriptorBytes
 day-described {f} {p} u d post k l h =
     let w1 = word-here (d .day) (omega arith) (from-recast h (five (le16 (d .day)) (le16 0) (le16 (alarms (d .appointments))) (le16 u) (le16 0x0FFF) (le16 0x0FFF) post)) in
@@ -83,7 +83,7 @@ pub record DayRead (f : List ℕ) (p : ℕ) (d : Day) : Type 0 where
   pub fine : dayVerdict f p ≡ Verdict.Fine
   pub shown : map (appointmentAt f) (placesInList (listOf f p)) ≡ d .appointments
 
-pub day-read : {f : List ℕ} {p : ℕ} (u : ℕ) (d : Day) (post after : List ℕ) → GoodDay d → u ≤ 32767 → tableEnd f ≤ 64 * u → Described f p u d post → From f (64 * u) (blockBytes d ++ after) → DayRead f p d
+pub day-read : {f : List ℕ} {p : ℕ} (u : ℕ) (d : Day) (post after : List ℕ) → GoodDay d → u ≤ lastBlock → tableEnd f ≤ 64 * u → Described f p u d post → From f (64 * u) (blockBytes d ++ after) → DayRead f p d
 day-read {f} {p} u d post after g l t s h =
     let q : blockAt f p ≡ 64 * u = ap (λ (n : ℕ). 64 * n) (s .offset) in
     let r : BlockRead f (blockAt f p) d = block-read d after g (moved-to h (sym q)) in

@@ -10,6 +10,7 @@ use Rattle.prelude.specs.Laws.Choice.{eq-skip}
 use Rattle.prelude.specs.Bytes.{le16}
 use Rattle.prelude.specs.declared.refusals.Verdict.{Verdict}
 use Rattle.sorting.specs.Order.{AtLeast, Sorted}
+use Rattle.days.specs.Days.{lastMinute}
 use Rattle.texts.specs.Notes.{noZero}
 use Rattle.calendar.specs.File.{Appointment, appointmentBytes, appointmentsBytes}
 use Rattle.calendar.specs.Lists.{sizeAt, flagsAt, minuteAt, nextAt, firstZero, listWalkFrom, placesInList, verdictIn}
@@ -22,7 +23,7 @@ use Rattle.calendar_writer.specs.Laws.From.{From, from-recast, moved-to,
 pub record GoodAppointment (a : Appointment) : Type 0 where
   pub clean : noZero (a .text) ≡ true
   pub flags : a .flags ≤ 3
-  pub minute : a .minute ≤ 1439
+  pub minute : a .minute ≤ lastMinute
 
 -- appointments in order, none before the minute low
 pub record GoodList (low : ℕ) (al : List Appointment) : Type 0 where

@@ -10,7 +10,7 @@ use lib.ListN.{length}
 use Rattle.prelude.specs.Choice.{ifLt}
 use Rattle.prelude.specs.Laws.Choice.{is-lt, is-ge, lt-elim}
 use Rattle.sorting.specs.Totals.{total}
-use Rattle.calendar.specs.File.{Day, units, blockBytes, blocks, firstUnit, fileOf}
+use Rattle.calendar.specs.File.{Day, units, blockBytes, blocks, firstUnit, fileOf, lastBlock}
 use Rattle.calendar.specs.Laws.File.{length-blocks, length-file}
 use Rattle.calendar.specs.declared.types.CalendarSettings.{CalendarSettings}
 use Rattle.calendar_writer.specs.DayLists.{pastLastBlockFrom, pastLastBlock}
@@ -37,24 +37,24 @@ unfolding beforeLast
 before-least last u [] h = omega arith
 before-least last u (d ∷ ds) h = omega (arith, before-least u (u + unitsOf d) ds (omega arith))
 
-past-before : (s u : ℕ) (d : Day) (ds : List Day) → pastLastBlockFrom (s + u) (d ∷ ds) ≡ ifLt 32767 (s + beforeLast u (u + unitsOf d) ds) true false
+past-before : (s u : ℕ) (d : Day) (ds : List Day) → pastLastBlockFrom (s + u) (d ∷ ds) ≡ ifLt lastBlock (s + beforeLast u (u + unitsOf d) ds) true false
 unfolding pastLastBlockFrom beforeLast
 past-before s u d [] = refl
 past-before s u d (e ∷ ds) =
     let i = past-before s (u + unitsOf d) e ds in
     let l = before-least (u + unitsOf d) (u + unitsOf d + unitsOf e) ds (omega arith) in
     lt-elim {X = Unit {0}}
-    (λ _. pastLastBlockFrom (s + u) (d ∷ (e ∷ ds)) ≡ ifLt 32767 (s + beforeLast (u + unitsOf d) (u + unitsOf d + unitsOf e) ds) true false)
-    32767 (s + u) tt tt
+    (λ _. pastLastBlockFrom (s + u) (d ∷ (e ∷ ds)) ≡ ifLt lastBlock (s + beforeLast (u + unitsOf d) (u + unitsOf d + unitsOf e) ds) true false)
+    lastBlock (s + u) tt tt
     (λ h. is-lt h _ _ ∙ sym (is-lt (omega arith) _ _))
     (λ h. is-ge h _ _ ∙ rw (add-assoc s u (unitsOf d)) i)
 
-past-none : pastLastBlock [] ≡ ifLt 32767 (firstUnit 0 + beforeLast 0 0 []) true false
+past-none : pastLastBlock [] ≡ ifLt lastBlock (firstUnit 0 + beforeLast 0 0 []) true false
 unfolding pastLastBlock pastLastBlockFrom beforeLast ifLt
 past-none = refl
 
 -- 13 by the start of the last block
-pub past-last : (ds : List Day) → pastLastBlock ds ≡ ifLt 32767 (firstUnit (length ds) + beforeLast 0 0 ds) true false
+pub past-last : (ds : List Day) → pastLastBlock ds ≡ ifLt lastBlock (firstUnit (length ds) + beforeLast 0 0 ds) true false
 unfolding pastLastBlock beforeLast
 past-last [] = past-none
 past-last (d ∷ ds) =

@@ -8,7 +8,7 @@ use native.Mathlib.Omega.{arith}
 use lib.ListN.{length}
 use Rattle.prelude.specs.Laws.Choice.{is-eq, is-ne, eq-elim, lt-skip}
 use Rattle.days.specs.Days.{lastDay}
-use Rattle.calendar.specs.File.{Appointment, Day, appointmentsBytes}
+use Rattle.calendar.specs.File.{Appointment, Day, appointmentsBytes, lastBlock}
 use Rattle.calendar_writer.specs.DayLists.{addDay, daysWith, pastLastBlockFrom}
 use Rattle.calendar_writer.specs.Laws.ListRead.{GoodList}
 use Rattle.calendar_writer.specs.Laws.TableRead.{GoodDays, listOn, on-none}
@@ -51,7 +51,7 @@ before-good :
 unfolding addDay pastLastBlockFrom
 before-good d low u [] ds g k l past next = next low u (omega arith) past
 before-good d low u (a ∷ al) ds g k l past next =
-    let e = lt-skip 32767 u _ _ true≢false past in
+    let e = lt-skip lastBlock u _ _ true≢false past in
     (record { known = k; size = g .size; list = g .list }, l, e .0, next (d + 1) _ (omega arith) (e .1))
 
 module _ (list : ℕ → List Appointment) where

@@ -8,7 +8,7 @@ use lib.ListN.{length}
 use Rattle.prelude.specs.Choice.{ifEq}
 use Rattle.prelude.specs.Laws.Choice.{is-eq, is-ne, eq-elim}
 use Rattle.prelude.specs.declared.refusals.Verdict.{Verdict}
-use Rattle.calendar.specs.File.{Appointment, Day, units, filled, blockBytes, blocks, descriptorBytes, table}
+use Rattle.calendar.specs.File.{Appointment, Day, units, filled, blockBytes, blocks, descriptorBytes, table, lastBlock}
 use Rattle.calendar.specs.Lists.{placesInList}
 use Rattle.calendar.specs.Reader.{tableEnd, dayAt, listOf, tableFrom, daysFrom}
 use Rattle.calendar.specs.Shown.{placesFrom, appointmentAt}
@@ -20,7 +20,7 @@ use Rattle.calendar_writer.specs.Laws.DayRead.{GoodDay, Described, day-d
 -- days that the reader takes as they are, none before low, whose first block stands at unit u
 abbrev pub GoodDays : ℕ → ℕ → List Day → Type 0
 GoodDays low u [] = Unit {0}
-GoodDays low u (d ∷ ds) = GoodDay d × (low ≤ d .day) × (u ≤ 32767) × GoodDays (d .day + 1) (u + units (length (blockBytes d))) ds
+GoodDays low u (d ∷ ds) = GoodDay d × (low ≤ d .day) × (u ≤ lastBlock) × GoodDays (d .day + 1) (u + units (length (blockBytes d))) ds
 
 -- what the days hold on day x
 unfoldable pub listOn : ℕ → List Day → List Appointment

@@ -16,14 +16,14 @@ use Rattle.book.specs.Books.{bookOf}
 use Rattle.book.specs.declared.types.Book.{Book}
 use Rattle.book.specs.declared.types.BookAnswer.{BookAnswer}
 use Rattle.pages.specs.Pages.{Numbered}
-use Rattle.calendar_writer.specs.DayLists.{pastLastBlock}
+use Rattle.calendar_writer.specs.DayLists.{pastLastBlock, mostDays}
 use Rattle.export.specs.Export.{spanOk, exportDays, exportFile, sized, spanAnswer, exportFrom, exportAnswer, leavesFile, exportLeaves}
 use Rattle.export.specs.declared.answers.ExportAnswer.{ExportAnswer}
 
 -- a first day and a count in range
 pub record Span (first count : ℕ) : Type 0 where
   pub day : first ≤ lastDay
-  pub most : count ≤ 366
+  pub most : count ≤ mostDays
   pub end : first + count ≤ lastDay + 1
 
 module _ {first count : ℕ} where
@@ -31,7 +31,7 @@ module _ {first count : ℕ} where
   unfolding spanOk
   span-facts h =
       let e1 = lt-skip lastDay first _ _ false≢true h in
-      let e2 = lt-skip 366 count _ _ false≢true (e1 .1) in
+      let e2 = lt-skip mostDays count _ _ false≢true (e1 .1) in
       let e3 = lt-skip (lastDay + 1) (first + count) _ _ false≢true (e2 .1) in
       record { day = e1 .0; most = e2 .0; end = e3 .0 }
 
@@ -44,7 +44,7 @@ pub first-beyond : (first count : ℕ) → lastDay < first → spanOk first coun
 unfolding spanOk
 first-beyond first count h = is-lt h _ _
 
-pub count-beyond : (first count : ℕ) → 366 < count → spanOk first count ≡ false
+pub count-beyond : (first count : ℕ) → mostDays < count → spanOk first count ≡ false
 unfolding spanOk
 count-beyond first count h = lt-elim (λ b. b ≡ false) lastDay first _ _ (λ _. refl) (λ _. is-lt h _ _)
 

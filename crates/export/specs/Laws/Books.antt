@@ -20,7 +20,7 @@ use Rattle.day_steps.specs.Codes.{Spanned}
 use Rattle.day_steps.specs.Laws.Codes.{facts-known}
 use Rattle.records.specs.Laws.Judged.{Judged, body-judged}
 use Rattle.book.specs.Walk.{typeAt, bodyAt}
-use Rattle.book.specs.Books.{entryAt, placesOf}
+use Rattle.book.specs.Books.{entryAt, placesOf, mostBookBytes}
 use Rattle.book.specs.Invariants.{RecordAt}
 use Rattle.book.specs.Laws.Entries.{Inside, entry-inside, record-there}
 use Rattle.falls.specs.declared.types.ShortMonth.{ShortMonth}
@@ -49,7 +49,7 @@ module _ (p : ℕ → Bool) where
   some-no (suc n) h = is-false (h n (omega arith)) _ _ ∙ some-no n (λ k l. h k (omega arith))
 
 -- a record that the walk judged fine
-pub sound-at : (f : List ℕ) (at : ℕ) → length f ≤ 65535 → RecordAt f at → Sound f at
+pub sound-at : (f : List ℕ) (at : ℕ) → length f ≤ mostBookBytes → RecordAt f at → Sound f at
 unfolding entryAt
 sound-at f at h r =
     let j : Judged (typeAt f at) (bodyAt f at) = body-judged (typeAt f at) (bodyAt f at) (r .fine) in

@@ -20,7 +20,7 @@ use Rattle.days.specs.declared.answers.FactsAnswer.{FactsAnswer}
 use Rattle.days.specs.declared.types.DayFacts.{DayFacts}
 use Rattle.day_steps.specs.Laws.Moves.{day-at}
 use Rattle.day_steps.specs.Codes.{Spanned}
-use Rattle.book.specs.Books.{bookOf}
+use Rattle.book.specs.Books.{bookOf, mostRecords}
 use Rattle.book.specs.Settings.{settingsOf}
 use Rattle.book.specs.Invariants.{AcceptedBook}
 use Rattle.book.specs.Laws.Books.{book-accepted}
@@ -113,7 +113,7 @@ front-below m n h =
     }
 
 -- a book has at most 4,680 records
-pub records-most : (f : List ℕ) {b : Book} → bookOf f ≡ BookAnswer.Accepted b → b .records ≤ 4680
+pub records-most : (f : List ℕ) {b : Book} → bookOf f ≡ BookAnswer.Accepted b → b .records ≤ mostRecords
 records-most f {b} e =
     let a : AcceptedBook f b = book-accepted f e in
     omega (arith, count-most f (a .long), a .size, a .count)

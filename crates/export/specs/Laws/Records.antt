@@ -10,6 +10,7 @@ use lib.ListN.{length, drop, length-take}
 use Rattle.prelude.specs.Laws.Bytes.{part-part}
 use Rattle.sorting.specs.Totals.{total}
 use Rattle.sorting.specs.Laws.Totals.{total-nil, total-cons}
+use Rattle.days.specs.Days.{lastMinute}
 use Rattle.records.specs.Fields.{recordOf, fixedOf, textLength, bodyText}
 use Rattle.records.specs.Ranges.{recordOk}
 use Rattle.records.specs.Laws.Ranges.{Within, record-facts}
@@ -29,7 +30,7 @@ use Rattle.export.specs.Export.{recordText}
 use Rattle.export.specs.Invariants.{GoodRecord, sizeOf, GoodBook}
 
 -- a record that is in range starts by 23:59
-start-most : (r : Record) → recordOk r ≡ true → timesOf r .start .0 ≤ 1439
+start-most : (r : Record) → recordOk r ≡ true → timesOf r .start .0 ≤ lastMinute
 unfolding timesOf
 start-most (Record.Dated d) h = record-facts (Record.Dated d) h .times .starts
 start-most (Record.Weekly w) h = record-facts (Record.Weekly w) h .1 .times .starts

@@ -11,7 +11,7 @@ use Rattle.day_steps.specs.Codes.{dateIn, weekdayIn, Spanned, Days}
 use Rattle.day_steps.specs.Laws.Codes.{held-day}
 use Rattle.day_steps.specs.Laws.Months.{week-same}
 use Rattle.falls.specs.declared.types.ShortMonth.{ShortMonth}
-use Rattle.occurrences.specs.Rules.{onDate, inDates, ruleShows, waitFor, gapOf}
+use Rattle.occurrences.specs.Rules.{onDate, inDates, ruleShows, waitFor, gapOf, longestWait}
 use Rattle.occurrences.specs.Laws.Rules.{on-weekly, shows-on, shows-both}
 use Rattle.occurrences.specs.Laws.Waits.{shows-out, not-yet, no-more, spanned-less, spanned-not}
 use Rattle.occurrences.specs.Laws.Gaps.{months-apart}
@@ -44,7 +44,7 @@ next-ahead {days} c r a = next-later (omega arith) (λ k _ h _. shows-out c r (g
 -- a gap is a day or more, and a year at most
 pub record Gap (n : ℕ) : Type 0 where
   pub least : 1 ≤ n
-  pub most : n ≤ 366
+  pub most : n ≤ longestWait
 
 pub gap-bounds : (kind : ℕ) → Gap (gapOf kind)
 unfolding gapOf

@@ -10,10 +10,11 @@ use native.Mathlib.Nat.{add-zero}
 use lib.ListN.{length, getD}
 use Rattle.sorting.specs.Laws.Keep.{keep-member}
 use Rattle.sorting.specs.Laws.Order.{sort-member}
-use Rattle.book.specs.Books.{entryAt, placesOf, entriesOf}
+use Rattle.book.specs.Books.{entryAt, placesOf, entriesOf, mostBookBytes}
 use Rattle.book.specs.Laws.Books.{Ahead, cursor-ahead}
 use Rattle.book.specs.Laws.Counts.{count-most}
 use Rattle.book.specs.Laws.Entries.{Reached, entry-reached}
+use Rattle.book.specs.Settings.{firstRecord}
 use Rattle.falls.specs.Times.{timesOf}
 use Rattle.pages.specs.Pages.{Numbered, numberedFrom, numbered, startOf, pageOf}
 use Rattle.pages.specs.Codes.{codeWith, code, decode}
@@ -43,7 +44,7 @@ pub code-placed : (f : List ℕ) {x : Numbered} → List·Memᴰ x (numbered f) 
 unfolding numbered entriesOf
 code-placed f m = placed-from f 0 (placesOf f) m
 
-pub place-inside : (f : List ℕ) → 12 ≤ length f → (k : ℕ) → k < length (placesOf f) → getD (placesOf f) k 0 ≤ length f
+pub place-inside : (f : List ℕ) → firstRecord ≤ length f → (k : ℕ) → k < length (placesOf f) → getD (placesOf f) k 0 ≤ length f
 place-inside f h k l =
     let r : Reached f k = entry-reached f h k (omega arith) in
     let a : Ahead f k (r .at) = cursor-ahead f k (r .at) (r .cursor) l in
@@ -61,7 +62,7 @@ decode-at f n at h k =
     let b : code (recordAt f n at) % 65536 ≡ at = rw e (omega arith) in
     same-record f a b
 
-module _ (f : List ℕ) (long : 12 ≤ length f) (size : length f ≤ 65535) where
+module _ (f : List ℕ) (long : firstRecord ≤ length f) (size : length f ≤ mostBookBytes) where
   decode-placed : {x : Numbered} → Placed f (placesOf f) 0 x → decode f (code x) ≡ x
   decode-placed {x} r =
       let i = r .inside in

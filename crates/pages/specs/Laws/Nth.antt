@@ -8,8 +8,9 @@ use native.Mathlib.Omega.{arith}
 use native.Mathlib.Nat.{add-zero, zero-add}
 use lib.ListN.{length, getD, take, length-map}
 use lib.Seq.{length-take-le, getD-take}
-use Rattle.book.specs.Books.{entryAt, placesOf, entriesOf}
+use Rattle.book.specs.Books.{entryAt, placesOf, entriesOf, mostBookBytes}
 use Rattle.book.specs.declared.types.Entry.{Entry}
+use Rattle.book.specs.Settings.{firstRecord}
 use Rattle.pages.specs.Pages.{Numbered, numberedFrom, numbered, pageOf, nth}
 use Rattle.pages.specs.Codes.{code, decode}
 use Rattle.pages.specs.Laws.Decoding.{page-decoded}
@@ -60,7 +61,7 @@ module _ (f : List ℕ) {X : Type 0} (none : X) (some : Numbered → X) where
   nth-no-record k h = nth-past none some (numbered f) k (let e = length-numbered f in omega arith)
 
 -- the k-th line of a page, from its codes in front of a list
-module _ (f : List ℕ) (long : 12 ≤ length f) (size : length f ≤ 65535) (p : Numbered → Bool) (codes : List ℕ) (n : ℕ) (h : n ≤ length codes) (e : take n codes ≡ map code (pageOf p f)) where
+module _ (f : List ℕ) (long : firstRecord ≤ length f) (size : length f ≤ mostBookBytes) (p : Numbered → Bool) (codes : List ℕ) (n : ℕ) (h : n ≤ length codes) (e : take n codes ≡ map code (pageOf p f)) where
   from-codes : pageOf p f ≡ map (decode f) (take n codes)
   from-codes = sym (page-decoded f long size p) ∙ ap (map (decode f)) (sym e)
 

@@ -19,13 +19,14 @@ use Rattle.days.specs.Laws.Answers.{facts-in, facts-out}
 use Rattle.days.specs.declared.answers.FactsAnswer.{FactsAnswer}
 use Rattle.days.specs.declared.types.CalendarDay.{CalendarDay}
 use Rattle.day_steps.specs.Laws.Moves.{day-at}
-use Rattle.book.specs.Books.{bookOf, entryAt, placesOf, entriesOf}
+use Rattle.book.specs.Books.{bookOf, entryAt, placesOf, entriesOf, mostRecords}
 use Rattle.book.specs.Walk.{nextPlace}
 use Rattle.book.specs.Invariants.{AcceptedBook}
 use Rattle.book.specs.Laws.Books.{book-accepted, Cursor, Ahead, cursor-ahead}
 use Rattle.book.specs.Laws.Counts.{count-most}
 use Rattle.book.specs.declared.types.Book.{Book}
 use Rattle.book.specs.declared.types.BookAnswer.{BookAnswer}
+use Rattle.book.specs.Settings.{firstRecord}
 use Rattle.pages.specs.Pages.{Numbered, numberedFrom, numbered, startOf, pageOf}
 use Rattle.pages.specs.Answers.{validatedDay, validated}
 use Rattle.pages.specs.Invariants.{ReadyBook, recordAt}
@@ -33,9 +34,9 @@ use Rattle.pages.specs.declared.types.Ready.{Ready}
 use Rattle.pages.specs.declared.types.Validated.{Validated}
 
 -- each record takes 14 bytes or more
-pub ready-most : {f : List ℕ} {a : Ready} → ReadyBook f a → a .records ≤ 4680
+pub ready-most : {f : List ℕ} {a : Ready} → ReadyBook f a → a .records ≤ mostRecords
 ready-most {f} {a} r =
-    let m : 12 + 14 * length (placesOf f) ≤ length f = count-most f (r .long) in
+    let m : firstRecord + 14 * length (placesOf f) ≤ length f = count-most f (r .long) in
     omega (arith, r .size, r .count)
 
 refused-not : {e : Refusal} {a : Ready} → Validated.Refused e ≡ Validated.Ready a → ⊥

@@ -16,6 +16,7 @@ use Rattle.records.specs.declared.types.Record.{Record}
 use Rattle.book.specs.Books.{entryAt, placesOf}
 use Rattle.book.specs.Walk.{typeAt, bodyAt}
 use Rattle.book.specs.Laws.Entries.{record-there}
+use Rattle.book.specs.Settings.{firstRecord}
 use Rattle.falls.specs.Falls.{falls}
 use Rattle.falls.specs.declared.types.ShortMonth.{ShortMonth}
 use Rattle.occurrences.specs.Rules.{ruleOf}
@@ -37,7 +38,7 @@ module _ (c : ShortMonth) (x : Record) (ok : recordOk x ≡ true) where
       (record { low = s .low; high = high; none = λ d l m. sym (shown-falls d (omega arith)) ∙ s .none d l m; hit = λ l. sym (shown-falls n (omega arith)) ∙ s .hit l })
 
 -- each record of an accepted book is in range
-pub record-sound : (f : List ℕ) → 12 ≤ length f → (k : ℕ) → k < length (placesOf f) → recordOk (entryAt f (getD (placesOf f) k 0) .«record») ≡ true
+pub record-sound : (f : List ℕ) → firstRecord ≤ length f → (k : ℕ) → k < length (placesOf f) → recordOk (entryAt f (getD (placesOf f) k 0) .«record») ≡ true
 unfolding entryAt
 record-sound f h k l =
     let at = getD (placesOf f) k 0 in body-judged (typeAt f at) (bodyAt f at) (record-there f h k l .fine) .sound

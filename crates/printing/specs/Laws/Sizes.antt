@@ -14,12 +14,14 @@ use Rattle.sorting.specs.Totals.{total}
 use Rattle.sorting.specs.Laws.Totals.{total-nil, total-cons, total-sort}
 use Rattle.digits.specs.Digits.{decimal}
 use Rattle.digits.specs.Laws.Decimal.{length-below}
+use Rattle.texts.specs.Notes.{mostText}
 use Rattle.records.specs.Fields.{fixedOf, textLength, noteLength}
 use Rattle.records.specs.Laws.Judged.{Judged, body-judged, fixed-range}
 use Rattle.book.specs.Walk.{typeAt, bodyLengthAt, bodyAt, nextPlace}
 use Rattle.book.specs.Books.{placesOf, entryAt}
 use Rattle.book.specs.Invariants.{RecordAt}
 use Rattle.book.specs.Laws.Books.{Cursor, cursor-first, Ahead, cursor-ahead}
+use Rattle.book.specs.Settings.{firstRecord}
 use Rattle.falls.specs.declared.types.ShortMonth.{ShortMonth}
 use Rattle.pages.specs.Pages.{Numbered, numbered, startOf, pageOf, fallsOn, pageOn, pageLineOf}
 use Rattle.pages.specs.Invariants.{ReadyBook, recordAt}
@@ -55,7 +57,7 @@ smaller f n at r =
     let l : length p ≤ bodyLengthAt f at = simp (length-take, length-drop) (omega arith) in
     let s : length (stretchBytes f (entryAt f at .text)) ≤ textLength t p = simp (length-take, length-drop) (omega arith) in
     let b : fixedOf t + textLength t p + noteLength t p ≤ length p = j .fits in
-    let m : textLength t p ≤ 27 = j .text-most in
+    let m : textLength t p ≤ mostText = j .text-most in
     let x = fixed-range t in
     let e = line-size f (recordAt f n at) in
     record { less = omega arith; most = omega arith }
@@ -82,7 +84,7 @@ module _ (f : List ℕ) (p : Numbered → Bool) where
       (λ y. rw (turn-no f n at t p y) (record { less = omega arith; most = omega arith }))
 
   -- all records of a book that pass
-  pub book-most : 12 ≤ length f → (total (lineSize f) (keep p (numbered f)) + length (keep p (numbered f)) + 12 ≤ length f) × (total (lineSize f) (keep p (numbered f)) ≤ 40 * length (keep p (numbered f)))
+  pub book-most : firstRecord ≤ length f → (total (lineSize f) (keep p (numbered f)) + length (keep p (numbered f)) + firstRecord ≤ length f) × (total (lineSize f) (keep p (numbered f)) ≤ 40 * length (keep p (numbered f)))
   book-most h =
       let b : Bounded f 12 (keep p (numberedAt f 0)) = bounded (length (placesOf f)) 0 12 (cursor-first f h) (omega arith) in
       rw (numbered-first f) (b .less, b .most)

@@ -14,7 +14,7 @@ use Rattle.prelude.specs.Laws.Bytes.{length-le16, le16-bytes, bytes-append}
 use Rattle.days.specs.Dates.{RealDate}
 use Rattle.days.specs.Laws.Dates.{valid-facts, length-bounds}
 use Rattle.days.specs.declared.types.Date.{Date}
-use Rattle.texts.specs.Notes.{noZero, noteOk}
+use Rattle.texts.specs.Notes.{noZero, noteOk, mostText, mostNote}
 use Rattle.records.specs.Fields.{recordOf, fixedOf, textLength, noteLength, bodyText, bodyNote}
 use Rattle.records.specs.Ranges.{recordOk, checkOffOk, checkOffClean}
 use Rattle.records.specs.Laws.Ranges.{three-bytes, RepeatFacts, Facts, record-facts, record-fields}
@@ -26,9 +26,9 @@ use Rattle.records.specs.declared.types.CheckOff.{CheckOff}
 use Rattle.records.specs.declared.types.Record.{Record}
 
 -- "at most 440 bytes"
-pub note-short : (n : List ℕ) → noteOk n ≡ true → length n ≤ 440
+pub note-short : (n : List ℕ) → noteOk n ≡ true → length n ≤ mostNote
 unfolding noteOk
-note-short n h = lt-skip 440 (length n) _ _ false≢true h .0
+note-short n h = lt-skip mostNote (length n) _ _ false≢true h .0
 
 module _ (r : Record) (text note : List ℕ) where
   pub length-body : length (bodyBytes r text note) ≡ fixedOf (typeOf r) + length text + length note
@@ -70,7 +70,7 @@ module _ (r : Record) (text note : List ℕ) where
   clean-body e = clean-typed r (length text) (length note) (text ++ note) e
 
   -- No refusal.
-  pub judge-encoded : recordOk r ≡ true → length text ≤ 27 → noZero text ≡ true → noteOk note ≡ true → judgeBody (typeOf r) (bodyBytes r text note) ≡ 0
+  pub judge-encoded : recordOk r ≡ true → length text ≤ mostText → noZero text ≡ true → noteOk note ≡ true → judgeBody (typeOf r) (bodyBytes r text note) ≡ 0
   unfolding judgeBody lengthsOk lengthsFit textsOk
   judge-encoded h k z o =
       let m : length note < 65536 = omega (arith, note-short note o) in
@@ -138,7 +138,7 @@ fixed-bytes r t n h k = of r (record-facts r h)
         let q = bytes-append (checkOffBytes (d .«check_off»)) (t ∷ le16 n) (check-bytes (d .«check_off») (f .check)) (k, le16-bytes n) in
         (omega arith, (omega arith, bytes-append (dateBytes (d .start)) (checkOffBytes (d .«check_off») ++ (t ∷ le16 n)) (date-bytes (d .start) (f .start)) q))
 
-pub bytes-encoded : (r : Record) (text note : List ℕ) → recordOk r ≡ true → Bytes text → Bytes note → length text ≤ 27 → Bytes (encode r text note)
+pub bytes-encoded : (r : Record) (text note : List ℕ) → recordOk r ≡ true → Bytes text → Bytes note → length text ≤ mostText → Bytes (encode r text note)
 unfolding encode bodyBytes
 bytes-encoded r text note h bt bn k =
     let fixed = fixed-bytes r (length text) (length note) h (omega arith) in

@@ -10,8 +10,9 @@ use Rattle.prelude.specs.Laws.Choice.{is-true, is-eq, is-ne, eq-elim, lt-skip, 
 use Rattle.days.specs.Dates.{monthLength, real, before, RealDate}
 use Rattle.days.specs.Laws.Dates.{valid-facts, length-bounds, length-month}
 use Rattle.days.specs.declared.types.Date.{Date}
+use Rattle.days.specs.Days.{lastMinute}
 use Rattle.records.specs.Fields.{recordOf, toDoOf}
-use Rattle.records.specs.Ranges.{timesOk, between, datedOk, repeatOk, weeklyOk, monthlyByDateOk, monthlyByPositionOk, yearlyOk, checkOffOk, toDoOk, recordOk, checkOffClean}
+use Rattle.records.specs.Ranges.{timesOk, between, datedOk, repeatOk, weeklyOk, monthlyByDateOk, monthlyByPositionOk, yearlyOk, checkOffOk, toDoOk, recordOk, checkOffClean, mostLead}
 use Rattle.records.specs.Bodies.{fieldsOk}
 use Rattle.records.specs.Invariants.{ThreeBytes}
 use Rattle.records.specs.declared.types.Dated.{Dated}
@@ -45,18 +46,18 @@ pub month-within : (y m : ℕ) → 1 ≤ monthLength y m → Within 1 m 12
 month-within y m h = let p = length-month y m h in record { least = p .0; most = p .1 }
 
 pub record Times (start end lead : ℕ) : Type 0 where
-  pub starts : start ≤ 1439
-  pub ends : end ≤ 1439
+  pub starts : start ≤ lastMinute
+  pub ends : end ≤ lastMinute
   pub order : start ≤ end
-  pub leads : lead ≤ 30
+  pub leads : lead ≤ mostLead
 
 pub times-facts : {a b l : ℕ} → timesOk a b l ≡ true → Times a b l
 unfolding timesOk
 times-facts {a} {b} {l} h =
-    let h1 = lt-skip 1439 a _ _ false≢true h in
-    let h2 = lt-skip 1439 b _ _ false≢true (h1 .1) in
+    let h1 = lt-skip lastMinute a _ _ false≢true h in
+    let h2 = lt-skip lastMinute b _ _ false≢true (h1 .1) in
     let h3 = lt-skip b a _ _ false≢true (h2 .1) in
-    let h4 = lt-skip 30 l _ _ false≢true (h3 .1) in
+    let h4 = lt-skip mostLead l _ _ false≢true (h3 .1) in
     omega arith
 
 pub record DatedFacts (d : Dated) : Type 0 where

@@ -12,7 +12,7 @@ use lib.ListN.{length, getD, take, drop, length-drop, drop-of-length-le}
 use lib.Seq.{drop-cons, drop-drop, getD-drop, length-take-le}
 use Rattle.prelude.specs.Laws.Choice.{is-lt, is-ge}
 use Rattle.prelude.specs.Bytes.{byte}
-use Rattle.texts.specs.Notes.{inFront, linesOf, shortLines, noteOk}
+use Rattle.texts.specs.Notes.{inFront, linesOf, shortLines, noteOk, mostNote, mostLine, mostLines}
 use Rattle.texts.specs.Lines.{toZero}
 use Rattle.texts.specs.Laws.Notes.{zero-or-not, lines-nil, lines-zero, lines-other, to-zero-zero, to-zero-other, to-zero-le, first-line}
 use Rattle.texts.specs.Invariants.{PastZero}
@@ -34,25 +34,25 @@ zero-beyond (x ∷ xs) (suc n) h f =
 -- A byte in front leaves the rule of the lines as it is: a zero always, another byte where the first line stays short.
 short-zero : (x : ℕ) (xs : List ℕ) → x ≡ 0 → shortLines (linesOf (x ∷ xs)) ≡ shortLines (linesOf xs)
 unfolding shortLines
-short-zero x xs z = rw (lines-zero x xs z) (let a : 0 ≤ 39 = omega arith in is-ge a _ _)
+short-zero x xs z = rw (lines-zero x xs z) (let a : 0 ≤ mostLine = omega arith in is-ge a _ _)
 
-short-front : (x : ℕ) (l : List ℕ) (ls : List (List ℕ)) → length l < 39 → shortLines (inFront x (l ∷ ls)) ≡ shortLines (l ∷ ls)
+short-front : (x : ℕ) (l : List ℕ) (ls : List (List ℕ)) → length l < mostLine → shortLines (inFront x (l ∷ ls)) ≡ shortLines (l ∷ ls)
 unfolding shortLines
 short-front x l ls h =
-    let a : suc (length l) ≤ 39 = omega arith in
-    let b : length l ≤ 39 = omega arith in
+    let a : suc (length l) ≤ mostLine = omega arith in
+    let b : length l ≤ mostLine = omega arith in
     is-ge a _ _ ∙ sym (is-ge b _ _)
 
 short-one : (x : ℕ) → shortLines (inFront x []) ≡ shortLines []
 unfolding shortLines
-short-one x = let a : 1 ≤ 39 = omega arith in is-ge a _ _
+short-one x = let a : 1 ≤ mostLine = omega arith in is-ge a _ _
 
-short-other : (x : ℕ) (xs : List ℕ) → (x ≡ 0 → ⊥) → toZero xs < 39 → shortLines (linesOf (x ∷ xs)) ≡ shortLines (linesOf xs)
+short-other : (x : ℕ) (xs : List ℕ) → (x ≡ 0 → ⊥) → toZero xs < mostLine → shortLines (linesOf (x ∷ xs)) ≡ shortLines (linesOf xs)
 short-other x [] n h = rw (lines-other x [] n, lines-nil) (short-one x)
 short-other x (y ∷ ys) n h =
     let l = to-zero-le (y ∷ ys) in
     let e = length-take-le (toZero (y ∷ ys)) (y ∷ ys) l in
-    let m : length (take (toZero (y ∷ ys)) (y ∷ ys)) < 39 = rw e h in
+    let m : length (take (toZero (y ∷ ys)) (y ∷ ys)) < mostLine = rw e h in
     rw (lines-other x (y ∷ ys) n, first-line (y ∷ ys) (omega arith)) (short-front x (take (toZero (y ∷ ys)) (y ∷ ys)) _ m)
 
 -- Up to a zero among the first 40 bytes all lines are short; so are all lines of 39 bytes; a line that goes on for 40 is not.
@@ -63,14 +63,14 @@ short-past (x ∷ xs) (suc n) m h z =
     zero-or-not x (λ e. short-zero x xs e) (λ e. short-other x xs e (let l = zero-within xs n (omega arith) z in omega arith))
     ∙ short-past xs n (omega arith) (omega arith) z
 
-short-all : (xs : List ℕ) → length xs ≤ 39 → shortLines (linesOf xs) ≡ true
+short-all : (xs : List ℕ) → length xs ≤ mostLine → shortLines (linesOf xs) ≡ true
 unfolding shortLines
 short-all [] h = rw lines-nil refl
 short-all (x ∷ xs) h =
     zero-or-not x (λ e. short-zero x xs e) (λ e. short-other x xs e (let l = to-zero-le xs in omega arith))
     ∙ short-all xs (omega arith)
 
-short-over : (xs : List ℕ) → 39 < toZero xs → shortLines (linesOf xs) ≡ false
+short-over : (xs : List ℕ) → mostLine < toZero xs → shortLines (linesOf xs) ≡ false
 unfolding shortLines
 short-over xs h =
     let l = to-zero-le xs in
@@ -78,7 +78,7 @@ short-over xs h =
     rw (first-line xs (omega arith)) (is-lt (rw e h) _ _)
 
 -- The lines from `start` on are short where those from such a place on are, and not where there is none.
-module _ {s : List ℕ} {start p : ℕ} (h : start + 39 < length s) (e : PastZero s start p) where
+module _ {s : List ℕ} {start p : ℕ} (h : start + mostLine < length s) (e : PastZero s start p) where
   pub short-jump : (p ≡ start → ⊥) → shortLines (linesOf (drop start s)) ≡ shortLines (linesOf (drop p s))
   short-jump n =
       let d = length-drop start s in
@@ -94,7 +94,7 @@ module _ {s : List ℕ} {start p : ℕ} (h : start + 39 < length s) (e : PastZer
       short-over (drop start s)
       (zero-beyond (drop start s) 40 (omega arith) (λ k m z. e .none (start + k) (omega arith) (omega arith) (sym (getD-drop start s k 0) ∙ z)))
 
-pub short-end : (s : List ℕ) (start : ℕ) → length s ≤ start + 39 → shortLines (linesOf (drop start s)) ≡ true
+pub short-end : (s : List ℕ) (start : ℕ) → length s ≤ start + mostLine → shortLines (linesOf (drop start s)) ≡ true
 short-end s start h = let d = length-drop start s in short-all (drop start s) (omega arith)
 
 -- The number of lines: one byte on, and at the last byte.
@@ -129,19 +129,19 @@ count-le (x ∷ (y ∷ ys)) =
     (λ n. rw (lines-other x (y ∷ ys) n, front-same x (y ∷ ys) (omega arith)) (omega arith))
 
 -- The rule of a note by these.
-pub note-long : (n : List ℕ) → 440 < length n → noteOk n ≡ false
+pub note-long : (n : List ℕ) → mostNote < length n → noteOk n ≡ false
 unfolding noteOk
 note-long n h = is-lt h _ _
 
-pub note-many : (n : List ℕ) → length n ≤ 440 → leb (length (linesOf n)) 11 ≡ false → noteOk n ≡ false
+pub note-many : (n : List ℕ) → length n ≤ mostNote → leb (length (linesOf n)) mostLines ≡ false → noteOk n ≡ false
 unfolding noteOk
 note-many n h e = is-ge h _ _ ∙ is-lt (leb-false _ _ e) _ _
 
-pub note-few : (n : List ℕ) → length n ≤ 440 → leb (length (linesOf n)) 11 ≡ true → noteOk n ≡ shortLines (linesOf n)
+pub note-few : (n : List ℕ) → length n ≤ mostNote → leb (length (linesOf n)) mostLines ≡ true → noteOk n ≡ shortLines (linesOf n)
 unfolding noteOk
 note-few n h e = is-ge h _ _ ∙ is-ge (leb-true _ _ e) _ _
 
-pub note-short : (n : List ℕ) → length n ≤ 11 → noteOk n ≡ true
+pub note-short : (n : List ℕ) → length n ≤ mostLines → noteOk n ≡ true
 note-short n h =
     let l = count-le n in
-    note-few n (omega arith) (le-leb (length (linesOf n)) 11 (omega arith)) ∙ short-all n (omega arith)
+    note-few n (omega arith) (le-leb (length (linesOf n)) mostLines (omega arith)) ∙ short-all n (omega arith)

@@ -12,11 +12,13 @@ use Rattle.prelude.specs.Laws.Choice.{is-true, is-false, is-ge, lt-skip, b-take
 use Rattle.prelude.specs.Bytes.{le16}
 use Rattle.prelude.specs.Splice.{splice}
 use Rattle.prelude.specs.declared.refusals.Refusal.{Refusal}
-use Rattle.texts.specs.Notes.{noZero, noteOk}
-use Rattle.records.specs.Ranges.{recordOk}
+use Rattle.days.specs.Days.{lastMinute}
+use Rattle.texts.specs.Notes.{noZero, noteOk, mostText}
+use Rattle.records.specs.Ranges.{recordOk, mostLead}
 use Rattle.records.specs.Encoding.{encode}
-use Rattle.book.specs.Settings.{settingsInRange}
+use Rattle.book.specs.Settings.{settingsInRange, mostGranularity, firstRecord}
 use Rattle.book.specs.declared.types.Settings.{Settings}
+use Rattle.book.specs.Books.{mostBookBytes}
 use Rattle.writer.specs.Writing.{givesWhere, leavesWhere, openBytes, openRefusal, roomRefusal, stateOpen, addRefusal, closeRefusal}
 use Rattle.writer.specs.Runs.{Item, Run, done, refused, afterCall, Fine, opened}
 use Rattle.writer.specs.declared.types.Writer.{Writer}
@@ -24,7 +26,7 @@ use Rattle.writer.specs.declared.types.Writer.{Writer}
 -- room for the bytes up to an end and for the end record
 pub record Room (size end : ℕ) : Type 0 where
   pub buffer : end + 3 ≤ size
-  pub book : end + 3 ≤ 65535
+  pub book : end + 3 ≤ mostBookBytes
 
 pub length-open : (s : Settings) → length (openBytes s) ≡ 12
 unfolding openBytes le16
@@ -54,7 +56,7 @@ pub room-facts : (size end : ℕ) → roomRefusal size end ≡ 0 → Room size e
 unfolding roomRefusal
 room-facts size end e =
     let e1 = lt-skip size (end + 3) _ _ (λ c. omega arith) e in
-    let e2 = lt-skip 65535 (end + 3) _ _ (λ c. omega arith) (e1 .1) in
+    let e2 = lt-skip mostBookBytes (end + 3) _ _ (λ c. omega arith) (e1 .1) in
     record { buffer = e1 .0; book = e2 .0 }
 
 pub facts-room : (size end : ℕ) → Room size end → roomRefusal size end ≡ 0
@@ -72,7 +74,7 @@ pub facts-open : (s : Settings) (size : ℕ) → settingsInRange s ≡ true → 
 unfolding openRefusal
 facts-open s size e h = is-true e _ _ ∙ is-ge h _ _
 
-state-open : (at : ℕ) → 12 ≤ at → stateOpen (opened at) ≡ true
+state-open : (at : ℕ) → firstRecord ≤ at → stateOpen (opened at) ≡ true
 unfolding stateOpen
 state-open at h = is-ge h _ _ ∙ is-false refl _ _
 
@@ -82,14 +84,14 @@ pub add-facts :
 unfolding addRefusal
 add-facts w size i e =
     let e1 = b-take (stateOpen w) _ _ (λ c. omega arith) e in
-    let e2 = lt-skip 27 (length (i .text)) _ _ (λ c. omega arith) (e1 .1) in
+    let e2 = lt-skip mostText (length (i .text)) _ _ (λ c. omega arith) (e1 .1) in
     let e3 = b-take (recordOk (i .kind)) _ _ (λ c. omega arith) (e2 .1) in
     let e4 = b-take (noZero (i .text)) _ _ (λ c. omega arith) (e3 .1) in
     let e5 = b-take (noteOk (i .note)) _ _ (λ c. omega arith) (e4 .1) in
     (record { short = e2 .0; ranged = e3 .0; clean = e4 .0; ruled = e5 .0 }, room-facts _ _ (e5 .1))
 
 pub facts-add :
-    (at size : ℕ) (i : Item) → 12 ≤ at → Fine i → Room size (at + length (encode (i .kind) (i .text) (i .note)))
+    (at size : ℕ) (i : Item) → firstRecord ≤ at → Fine i → Room size (at + length (encode (i .kind) (i .text) (i .note)))
     → addRefusal (opened at) size (i .kind) (i .text) (i .note) ≡ 0
 unfolding addRefusal
 facts-add at size i h f r =
@@ -102,15 +104,15 @@ close-facts w size e =
     let e1 = b-take (stateOpen w) _ _ (λ c. omega arith) e in
     room-facts size (w .used) (e1 .1)
 
-pub facts-close : (at size : ℕ) → 12 ≤ at → Room size at → closeRefusal (opened at) size ≡ 0
+pub facts-close : (at size : ℕ) → firstRecord ≤ at → Room size at → closeRefusal (opened at) size ≡ 0
 unfolding closeRefusal
 facts-close at size h r = is-true (state-open at h) _ _ ∙ facts-room size at r
 
 -- a lead time in range fits into a byte
-pub settings-lead : (s : Settings) → settingsInRange s ≡ true → s .lead ≤ 30
+pub settings-lead : (s : Settings) → settingsInRange s ≡ true → s .lead ≤ mostLead
 unfolding settingsInRange
 settings-lead s e =
-    let e1 = lt-skip 1439 (s .start .0) _ _ false≢true e in
+    let e1 = lt-skip lastMinute (s .start .0) _ _ false≢true e in
     let e2 = lt-skip (s .granularity) 1 _ _ false≢true (e1 .1) in
-    let e3 = lt-skip 720 (s .granularity) _ _ false≢true (e2 .1) in
-    lt-skip 30 (s .lead) _ _ false≢true (e3 .1) .0
+    let e3 = lt-skip mostGranularity (s .granularity) _ _ false≢true (e2 .1) in
+    lt-skip mostLead (s .lead) _ _ false≢true (e3 .1) .0

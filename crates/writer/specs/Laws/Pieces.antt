@@ -14,7 +14,7 @@ use Rattle.prelude.specs.Laws.Bytes.{bytesFrom, drop-places, le16-join, bytes-a
 use Rattle.prelude.specs.Bytes.{bit, byte, word, le16, Bytes}
 use Rattle.records.specs.Encoding.{encode}
 use Rattle.records.specs.Laws.Again.{encode-again}
-use Rattle.book.specs.Settings.{bookMark, bookIdentified, settingsInRange, settingsOf, flagsOk, settingsOk}
+use Rattle.book.specs.Settings.{bookMark, bookIdentified, settingsInRange, settingsOf, flagsOk, settingsOk, firstRecord}
 use Rattle.book.specs.Walk.{typeAt, bodyLengthAt, bodyAt, nextPlace}
 use Rattle.book.specs.Invariants.{RecordAt}
 use Rattle.book.specs.Laws.Walk.{EndAt}
@@ -42,7 +42,7 @@ flag-again (suc (suc x)) h = absurd (omega arith)
 
 -- what the settings' test says
 record SettingsFine (f : List ℕ) : Type 0 where
-  long : 12 ≤ length f
+  long : firstRecord ≤ length f
   range : settingsInRange (settingsOf f) ≡ true
   alarm : byte f 9 ≤ 1
   carry : byte f 11 ≤ 1
@@ -50,7 +50,7 @@ record SettingsFine (f : List ℕ) : Type 0 where
 settings-fine : (f : List ℕ) → settingsOk f ≡ true → SettingsFine f
 unfolding settingsOk flagsOk
 settings-fine f e =
-    let e1 = lt-skip (length f) 12 _ _ false≢true e in
+    let e1 = lt-skip (length f) firstRecord _ _ false≢true e in
     let e2 = b-take (settingsInRange (settingsOf f)) _ _ false≢true (e1 .1) in
     let e3 = lt-skip 1 (byte f 9) _ _ false≢true (e2 .1) in
     let e4 = lt-skip 1 (byte f 11) _ _ false≢true (e3 .1) in
@@ -71,7 +71,7 @@ first-twelve f b i s =
     rw (i0 .0, i1 .0, i2 .0, i3 .0, i4 .0, word-again f b 5, word-again f b 7, flag-again (byte f 9) (v .alarm), flag-again (byte f 11) (v .carry))
 
 -- the first twelve bytes
-pub open-again : (f : List ℕ) → Bytes f → bookIdentified f ≡ true → settingsOk f ≡ true → openBytes (settingsOf f) ++ drop 12 f ≡ f
+pub open-again : (f : List ℕ) → Bytes f → bookIdentified f ≡ true → settingsOk f ≡ true → openBytes (settingsOf f) ++ drop firstRecord f ≡ f
 open-again f b i s = rw (first-twelve f b i s) (sym (drop-places f 0 12 (settings-fine f s .long)))
 
 -- a record's bytes

@@ -12,8 +12,9 @@ use Rattle.prelude.specs.Choice.{ifEq, ifB}
 use Rattle.prelude.specs.Laws.Choice.{is-ge, lt-skip}
 use Rattle.prelude.specs.Bytes.{bit, byte, le16}
 use Rattle.prelude.specs.Laws.Bytes.{word-le16}
+use Rattle.days.specs.Days.{lastMinute}
 use Rattle.records.specs.Laws.Bodies.{state-byte}
-use Rattle.book.specs.Settings.{bookMark, bookIdentified, settingsInRange, settingsOf, flagsOk}
+use Rattle.book.specs.Settings.{bookMark, bookIdentified, settingsInRange, settingsOf, flagsOk, mostGranularity}
 use Rattle.book.specs.Walk.{walkFrom, placesIn, ended}
 use Rattle.book.specs.Fillers.{endIn}
 use Rattle.book.specs.Laws.Fillers.{nothing-after}
@@ -28,15 +29,15 @@ use Rattle.writer.specs.Laws.Items.{Entered, item-next, item-step, item-
 
 -- The opening bytes.
 record InRange (s : Settings) : Type 0 where
-  start : s .start .0 ≤ 1439
-  granularity : s .granularity ≤ 720
+  start : s .start .0 ≤ lastMinute
+  granularity : s .granularity ≤ mostGranularity
 
 in-range : (s : Settings) → settingsInRange s ≡ true → InRange s
 unfolding settingsInRange
 in-range s e =
-    let e1 = lt-skip 1439 (s .start .0) _ _ false≢true e in
+    let e1 = lt-skip lastMinute (s .start .0) _ _ false≢true e in
     let e2 = lt-skip (s .granularity) 1 _ _ false≢true (e1 .1) in
-    let e3 = lt-skip 720 (s .granularity) _ _ false≢true (e2 .1) in
+    let e3 = lt-skip mostGranularity (s .granularity) _ _ false≢true (e2 .1) in
     record { start = e1 .0; granularity = e3 .0 }
 
 flag-back : (b : Bool) → eqb (bit b) 1 ≡ b

@@ -9,8 +9,9 @@ use native.Mathlib.Nat.{zero-add}
 use lib.ListN.{length, take, length-append}
 use Rattle.prelude.specs.Splice.{splice}
 use Rattle.prelude.specs.Laws.Splice.{length-splice, take-splice, splice-splice, splice-then}
-use Rattle.book.specs.Settings.{settingsInRange}
+use Rattle.book.specs.Settings.{settingsInRange, firstRecord}
 use Rattle.book.specs.declared.types.Settings.{Settings}
+use Rattle.book.specs.Books.{mostBookBytes}
 use Rattle.writer.specs.Writing.{openBytes, endBytes, openRefusal, openGives, openLeaves, addRefusal, addGives, addLeaves, closeRefusal, closeGives, closeLeaves}
 use Rattle.writer.specs.Runs.{Item, done, finish, adds, writing, recordBytes, bookBytes, restBytes, itemBytes, closedAt, Items, opened, Written}
 use Rattle.writer.specs.Laws.Calls.{Room, length-open, call-done, call-goes, open-facts, facts-open, add-facts, facts-add, close-facts, facts-close}
@@ -47,7 +48,7 @@ done-buffer e = cc
 record Added (is : List Item) (at : ℕ) (b : List ℕ) (w : Writer) (b′ : List ℕ) : Type 0 where
   fine : Items is
   room : at + length (restBytes is) ≤ length b
-  book : at + length (restBytes is) ≤ 65535
+  book : at + length (restBytes is) ≤ mostBookBytes
   state : w ≡ closedAt (at + length (restBytes is))
   bytes : b′ ≡ splice b at (restBytes is)
 
@@ -83,7 +84,7 @@ adds-done (i ∷ is) at b w b′ e =
     }
 
 adds-goes :
-    (is : List Item) (at : ℕ) (b : List ℕ) → 12 ≤ at → Items is → at + length (restBytes is) ≤ length b → at + length (restBytes is) ≤ 65535
+    (is : List Item) (at : ℕ) (b : List ℕ) → firstRecord ≤ at → Items is → at + length (restBytes is) ≤ length b → at + length (restBytes is) ≤ mostBookBytes
     → adds is (opened at) b ≡ done (closedAt (at + length (restBytes is))) (splice b at (restBytes is))
 unfolding adds recordBytes
 adds-goes [] at b h f r k = finish-goes at b (facts-close at (length b) h (record { buffer = r; book = k }))
@@ -105,13 +106,13 @@ pub length-book : (s : Settings) (is : List Item) → length (bookBytes s is) �
 length-book s is = ap length (book-parts s is) ∙ length-append (openBytes s) (restBytes is) ∙ rw (length-open s)
 
 module _ (s : Settings) (is : List Item) (b : List ℕ) where
-  open-done : {w : Writer} {b′ : List ℕ} → writing s is b ≡ done w b′ → (openRefusal s (length b) ≡ 0) × (adds is (opened 12) (splice b 0 (openBytes s)) ≡ done w b′)
+  open-done : {w : Writer} {b′ : List ℕ} → writing s is b ≡ done w b′ → (openRefusal s (length b) ≡ 0) × (adds is (opened firstRecord) (splice b 0 (openBytes s)) ≡ done w b′)
   unfolding writing openGives openLeaves
-  open-done e = call-done (openRefusal s (length b)) (opened 12) (opened 0) b 0 (openBytes s) (λ v c. adds is v c) e
+  open-done e = call-done (openRefusal s (length b)) (opened firstRecord) (opened 0) b 0 (openBytes s) (λ v c. adds is v c) e
 
-  open-goes : openRefusal s (length b) ≡ 0 → writing s is b ≡ adds is (opened 12) (splice b 0 (openBytes s))
+  open-goes : openRefusal s (length b) ≡ 0 → writing s is b ≡ adds is (opened firstRecord) (splice b 0 (openBytes s))
   unfolding writing openGives openLeaves
-  open-goes e = call-goes (openRefusal s (length b)) (opened 12) (opened 0) b 0 (openBytes s) (λ v c. adds is v c) e
+  open-goes e = call-goes (openRefusal s (length b)) (opened firstRecord) (opened 0) b 0 (openBytes s) (λ v c. adds is v c) e
 
   -- the opening bytes and then the rest are the book
   both : splice (splice b 0 (openBytes s)) 12 (restBytes is) ≡ splice b 0 (bookBytes s is)
@@ -144,7 +145,7 @@ module _ (s : Settings) (is : List Item) (b : List ℕ) where
 
   -- When a run is not refused.
   pub writing-goes :
-      settingsInRange s ≡ true → Items is → length (bookBytes s is) ≤ length b → length (bookBytes s is) ≤ 65535
+      settingsInRange s ≡ true → Items is → length (bookBytes s is) ≤ length b → length (bookBytes s is) ≤ mostBookBytes
       → writing s is b ≡ done (closedAt (length (bookBytes s is))) (splice b 0 (bookBytes s is))
   writing-goes h f r k =
       let n = length-book s is in

@@ -10,10 +10,10 @@ use lib.ListN.{length, getD, take, drop}
 use Rattle.prelude.specs.Laws.Choice.{is-lt, is-ge, is-true}
 use Rattle.prelude.specs.Bytes.{Bytes, le16}
 use Rattle.prelude.specs.Splice.{splice}
-use Rattle.book.specs.Settings.{bookIdentified, settingsInRange, settingsOf, settingsOk}
+use Rattle.book.specs.Settings.{bookIdentified, settingsInRange, settingsOf, settingsOk, firstRecord}
 use Rattle.book.specs.Walk.{walkOf}
 use Rattle.book.specs.Fillers.{fillersOf}
-use Rattle.book.specs.Books.{bookOf, entryAt, placesOf, recordFrom, recordAnswer, recordTextIn, recordNoteIn}
+use Rattle.book.specs.Books.{bookOf, entryAt, placesOf, recordFrom, recordAnswer, recordTextIn, recordNoteIn, mostBookBytes}
 use Rattle.book.specs.Laws.Walk.{at-first}
 use Rattle.book.specs.Invariants.{AcceptedBook}
 use Rattle.book.specs.Laws.Books.{book-accepted}
@@ -45,20 +45,20 @@ reads f s n k i b h e =
       note = ap (recordNoteIn f) r ∙ e .note;
     }
 
-module _ (s : Settings) (is : List Item) (h : settingsInRange s ≡ true) (o : Items is) (l : length (bookBytes s is) ≤ 65535) where
-  ahead : drop 12 (bookBytes s is) ≡ restBytes is
+module _ (s : Settings) (is : List Item) (h : settingsInRange s ≡ true) (o : Items is) (l : length (bookBytes s is) ≤ mostBookBytes) where
+  ahead : drop firstRecord (bookBytes s is) ≡ restBytes is
   unfolding bookBytes openBytes le16
   ahead = refl
 
-  long : 12 ≤ length (bookBytes s is)
+  long : firstRecord ≤ length (bookBytes s is)
   long = omega (arith, length-book s is)
 
   settings-read : settingsOf (bookBytes s is) ≡ s
   unfolding bookBytes
   settings-read = settings-back s (restBytes is) h
 
-  walked-book : Walked (bookBytes s is) 0 12 is
-  walked-book = read-walked (bookBytes s is) is 0 12 o (at-first long) ahead
+  walked-book : Walked (bookBytes s is) 0 firstRecord is
+  walked-book = read-walked (bookBytes s is) is 0 firstRecord o (at-first long) ahead
 
   opening : (bookIdentified (bookBytes s is) ≡ true) × (settingsOk (bookBytes s is) ≡ true)
   unfolding bookBytes settingsOk

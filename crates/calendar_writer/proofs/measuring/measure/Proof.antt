@@ -9,6 +9,7 @@ use Rattle.calendar_writer.specs.Sums.{countIn, sumUp}
 use Rattle.calendar_writer.specs.Laws.Turns.{sum-end, sum-none, sum-some}
 use Rattle.calendar_writer.proofs.measuring.measure.Statement.{statement}
 use Rattle.calendar_writer.proofs.measuring.measure.Tie as tie
+use Rattle.calendar_writer.specs.DayLists.{mostDays}
 
 abbrev Inv-loop : tie.InvT-loop
 Inv-loop sums n₀ units₀ last₀ appointments₀ k₀ n units last appointments k =
@@ -17,7 +18,7 @@ Inv-loop sums n₀ units₀ last₀ appointments₀ k₀ n units last appointmen
 abbrev μ-loop : tie.MeasureT-loop
 μ-loop sums n₀ units₀ last₀ appointments₀ k₀ n units last appointments k = length sums - k
 
-count-fits : (a k s : ℕ) → a ≤ 4294967296 * k → k < 366 → s < 18446744073709551616 → a + s / 4294967296 < 18446744073709551616
+count-fits : (a k s : ℕ) → a ≤ 4294967296 * k → k < mostDays → s < 18446744073709551616 → a + s / 4294967296 < 18446744073709551616
 count-fits a k s h l m = omega arith
 
 loop-holds : tie.Need-loop-holds Inv-loop μ-loop

@@ -11,6 +11,7 @@ use Rattle.pages.specs.Codes.{codeWith}
 use Rattle.pages.specs.Laws.Codes.{code-at}
 use Rattle.export.specs.Passes.{weighs}
 use borrow.Author.Needs.{needs}
+use Rattle.texts.specs.Notes.{mostText}
 use Rattle.export.proofs.collecting.take_in.Statement.{statement}
 use Rattle.export.proofs.collecting.take_in.Tie as tie
 
@@ -31,7 +32,7 @@ add-hits-requires c κs =
     let t = w .before in
     let s = t .before .before .before .before .before in
     let p = s .pre .1 .1 .1 in
-    let l : t .text-of .result .length ≤ 27 = omega (arith, ap (λ (x : Stretch). x .length) (t .text-of .ensures), s .pre .0 .short) in
+    let l : t .text-of .result .length ≤ mostText = omega (arith, ap (λ (x : Stretch). x .length) (t .text-of .ensures), s .pre .0 .short) in
     (p .0, (p .1 .0, (p .1 .1 .0, (omega (arith, w .weight-of .ensures, bit-most (t .before .times-at .result .alarm)), p .1 .1 .1))))
 
 code-of-requires : tie.Need-code-of-requires

@@ -20,6 +20,7 @@ use Rattle.occurrences.specs.declared.types.Rule.{Rule}
 use Rattle.calendar_writer.specs.Scatter.{Added, scatter}
 use Rattle.export.specs.Passes.{marked}
 use borrow.Author.Needs.{needs}
+use Rattle.texts.specs.Notes.{mostText}
 use Rattle.export.proofs.filling.fill_code.Statement.{statement}
 use Rattle.export.proofs.filling.fill_code.Tie as tie
 
@@ -43,11 +44,11 @@ made c =
     let e = c .before .before .line-of .ensures in
     same-appointment (ap (λ (l : Line). l .start .0) e) (c .before .flags-of .ensures ∙ ap (λ (l : Line). bit (l .alarm) + specialTime (a .interval) (l .start .0)) e) (c .part .ensures ∙ ap (λ (l : Line). part (a .file .now) (l .text .place) (l .text .length)) e)
 
-short : (c : tie.After-part) → length (c .part .result .now) ≤ 27
+short : (c : tie.After-part) → length (c .part .result .now) ≤ mostText
 unfolding pageLineOf decode
 short c =
     let l = c .before .before .line-of .result in
-    let n : l .text .length ≤ 27 = rw (c .before .before .line-of .ensures) (begin c .pre .1 .0 .short) in
+    let n : l .text .length ≤ mostText = rw (c .before .before .line-of .ensures) (begin c .pre .1 .0 .short) in
     omega (arith, ap length (c .part .ensures), length-take (l .text .length) (drop (l .text .place) (begin c .args .file .now)), n)
 
 -- what is lent of the piece

@@ -8,7 +8,7 @@ use lib.ListN.{length}
 use Rattle.prelude.specs.Laws.Grown.{Grown, grown-start, grown-space, space-last, grown-more, grown-turn, finish-last}
 use Rattle.calendar.specs.File.{Day, zeros, headBytes, fileOf}
 use Rattle.export.specs.Export.{appointmentsFor, showsUnder}
-use Rattle.calendar_writer.specs.DayLists.{daysWith}
+use Rattle.calendar_writer.specs.DayLists.{daysWith, mostDays}
 use Rattle.calendar.specs.Laws.File.{length-head}
 use Rattle.calendar_writer.specs.Sums.{sumTable, rows}
 use Rattle.export.specs.Passes.{soFar}
@@ -27,7 +27,7 @@ abbrev last : tie.Start → List ℕ
 last s = rows (soFar (s .args .file .now) (s .args .s .interval) (s .args .c) (s .args .days .now) (s .args .codes .now) (length (s .args .codes .now))) (s .args .first) 0 (s .args .sums .now)
 
 -- there are no more descriptors than days
-few : (s : tie.Start) → s .args .n ≤ 366
+few : (s : tie.Start) → s .args .n ≤ mostDays
 few s = omega (arith, s .pre .1 .1 .0, s .pre .1 .1 .1 .1 .0, ready-few (s .pre .1 .0) (s .args .s))
 
 -- before the first piece, and behind each of the first three

@@ -6,7 +6,7 @@ use mathlib.Core.Path.{_≡_, sym}
 use mathlib.Core.Logic.{⊎-elim}
 use borrow.Author.Tests.{le-leb, lt-leb}
 use lib.ListN.{length, drop}
-use Rattle.texts.specs.Notes.{linesOf}
+use Rattle.texts.specs.Notes.{linesOf, mostLines}
 use Rattle.texts.specs.Laws.Rules.{count-zero, count-other, count-last}
 use Rattle.texts.proofs.rules.few_lines.Statement.{statement}
 use Rattle.texts.proofs.rules.few_lines.Tie as tie
@@ -53,10 +53,10 @@ counted l =
     omega (arith, e)
 
 returns : tie.Need-returns Inv-loop μ-loop
-returns c = let n = counted (c .before) in sym (lt-leb (length (linesOf (c .before .before .before .args .s .now))) 11 (omega arith))
+returns c = let n = counted (c .before) in sym (lt-leb (length (linesOf (c .before .before .before .args .s .now))) mostLines (omega arith))
 
 returns-2 : tie.Need-returns-2 Inv-loop μ-loop
-returns-2 c = let n = counted (c .before) in sym (le-leb (length (linesOf (c .before .before .before .args .s .now))) 11 (omega arith))
+returns-2 c = let n = counted (c .before) in sym (le-leb (length (linesOf (c .before .before .before .args .s .now))) mostLines (omega arith))
 
 pub few-lines-spec : {M : Type 1} → statement M
 few-lines-spec =

@@ -8,6 +8,7 @@ use Rattle.prelude.specs.Laws.Choice.{lt-elim, lt-yes, lt-no}
 use Rattle.prelude.specs.Refusals.{noRoom}
 use Rattle.writer.specs.Writing.{roomRefusal}
 use borrow.Author.Needs.{needs}
+use Rattle.book.specs.Books.{mostBookBytes}
 use Rattle.writer.proofs.deciding.room_refusal.Statement.{statement}
 use Rattle.writer.proofs.deciding.room_refusal.Tie as tie
 
@@ -25,17 +26,17 @@ longest-in-requires : tie.Need-longest-in-requires
 longest-in-requires c κs = search needs
 
 -- past the shorter of size and 65,535 is past one of them
-over : (size end : ℕ) → ifLt size 65535 size 65535 < end + 3 → noRoom ≡ roomRefusal size end
+over : (size end : ℕ) → ifLt size mostBookBytes size mostBookBytes < end + 3 → noRoom ≡ roomRefusal size end
 unfolding roomRefusal
 over size end =
-    lt-elim (λ (z : ℕ). z < end + 3 → noRoom ≡ ifLt size (end + 3) noRoom (ifLt 65535 (end + 3) noRoom 0)) size 65535 size 65535
+    lt-elim (λ (z : ℕ). z < end + 3 → noRoom ≡ ifLt size (end + 3) noRoom (ifLt mostBookBytes (end + 3) noRoom 0)) size mostBookBytes size mostBookBytes
     (λ h l. lt-yes _ _ _ l refl)
     (λ h l. lt-elim (λ (z : ℕ). noRoom ≡ z) _ _ _ _ (λ _. refl) (λ _. lt-yes _ _ _ l refl))
 
-within : (size end : ℕ) → end + 3 ≤ ifLt size 65535 size 65535 → 0 ≡ roomRefusal size end
+within : (size end : ℕ) → end + 3 ≤ ifLt size mostBookBytes size mostBookBytes → 0 ≡ roomRefusal size end
 unfolding roomRefusal
 within size end =
-    lt-elim (λ (z : ℕ). end + 3 ≤ z → 0 ≡ ifLt size (end + 3) noRoom (ifLt 65535 (end + 3) noRoom 0)) size 65535 size 65535
+    lt-elim (λ (z : ℕ). end + 3 ≤ z → 0 ≡ ifLt size (end + 3) noRoom (ifLt mostBookBytes (end + 3) noRoom 0)) size mostBookBytes size mostBookBytes
     (λ h l. lt-no _ _ _ l (lt-no _ _ _ (omega arith) refl))
     (λ h l. lt-no _ _ _ (omega arith) (lt-no _ _ _ l refl))
 

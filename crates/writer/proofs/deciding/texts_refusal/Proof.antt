@@ -10,6 +10,7 @@ use Rattle.records.specs.Laws.Judged.{fixed-range}
 use Rattle.records.specs.Laws.Bodies.{note-short, length-encoded}
 use Rattle.writer.specs.Writing.{roomRefusal}
 use borrow.Author.Needs.{needs}
+use Rattle.texts.specs.Notes.{mostNote}
 use Rattle.writer.proofs.deciding.texts_refusal.Statement.{statement}
 use Rattle.writer.proofs.deciding.texts_refusal.Tie as tie
 
@@ -25,7 +26,7 @@ fixed-size-requires c κs = search needs
 fixed : (c : tie.After-fixed-size) → c .fixed-size .result ≤ 17
 fixed c = omega (arith, c .fixed-size .ensures, fixed-range (typeOf (c .before .before .before .before .before .before .before .args .r)))
 
-short : (c : tie.After-fixed-size) → length (c .before .before .before .before .before .before .before .args .note .now) ≤ 440
+short : (c : tie.After-fixed-size) → length (c .before .before .before .before .before .before .before .args .note .now) ≤ mostNote
 short c = note-short _ (sym (c .before .before .note-ok .ensures) ∙ c .before .if2 .taken)
 
 add-more : tie.Need-add-more
