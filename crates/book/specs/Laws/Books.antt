@@ -8,7 +8,7 @@ use native.Mathlib.Omega.{arith}
 use native.Mathlib.Nat.{add-zero, zero-add}
 use lib.ListN.{length, getD, drop}
 use lib.Seq.{drop-cons}
-use Rattle.prelude.specs.Laws.Choice.{lt-skip, b-take}
+use Rattle.prelude.specs.Laws.Choice.{lt-skip, b-take, constructors-differ}
 use Rattle.prelude.specs.declared.refusals.Verdict.{Verdict}
 use Rattle.prelude.specs.declared.refusals.Refusal.{Refusal}
 use Rattle.book.specs.Settings.{bookIdentified, settingsOf, settingsOk, firstRecord}
@@ -23,7 +23,7 @@ use Rattle.book.specs.declared.types.BookAnswer.{BookAnswer}
 use Rattle.book.specs.declared.types.StepAnswer.{StepAnswer}
 
 pub refused-not : {e : Refusal} {b : Book} → BookAnswer.Refused e ≡ BookAnswer.Accepted b → ⊥
-refused-not c = let z : _≡_ {A = ℕ} 0 1 = cc in omega arith
+refused-not c = constructors-differ cc
 
 accepted-inj : {a b : Book} → BookAnswer.Accepted a ≡ BookAnswer.Accepted b → a ≡ b
 accepted-inj e = cc

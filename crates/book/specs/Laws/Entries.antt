@@ -5,7 +5,7 @@ use mathlib.Core.Path.{_≡_, refl}
 use mathlib.Core.List.{List}
 use native.Mathlib.Omega.{arith}
 use lib.ListN.{length, getD, length-take, length-drop}
-use Rattle.prelude.specs.Laws.Choice.{lt-take}
+use Rattle.prelude.specs.Laws.Choice.{lt-take, constructors-differ}
 use Rattle.prelude.specs.declared.refusals.Refusal.{Refusal}
 use Rattle.records.specs.Fields.{fixedOf, textLength, noteLength}
 use Rattle.records.specs.Laws.Judged.{Judged, body-judged}
@@ -68,7 +68,7 @@ pub entry-inside : (f : List ℕ) (at : ℕ) → RecordAt f at → Inside f (ent
 entry-inside f at r = record { text = text-then-note f at; note = omega (arith, entry-ends f at r, r .body) }
 
 refused-not : {e : Refusal} {x : Entry} → RecordAnswer.Refused e ≡ RecordAnswer.Record x → ⊥
-refused-not c = let z : _≡_ {A = ℕ} 0 1 = cc in omega arith
+refused-not c = constructors-differ cc
 
 record-inj : {a b : Entry} → RecordAnswer.Record a ≡ RecordAnswer.Record b → a ≡ b
 record-inj e = cc

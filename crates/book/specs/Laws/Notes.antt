@@ -5,7 +5,7 @@ use mathlib.Core.Path.{_≡_, refl, sym, ap}
 use mathlib.Core.List.{List}
 use native.Mathlib.Omega.{arith}
 use lib.ListN.{length, getD}
-use Rattle.prelude.specs.Laws.Choice.{is-lt, is-ge}
+use Rattle.prelude.specs.Laws.Choice.{is-lt, is-ge, constructors-differ}
 use Rattle.prelude.specs.Refusals.{noSuchNumber, refusal}
 use Rattle.prelude.specs.declared.refusals.Refusal.{Refusal}
 use Rattle.prelude.specs.declared.slices.Stretch.{Stretch}
@@ -29,7 +29,7 @@ stretch-inj : {a b : Stretch} → StretchAnswer.Stretch a ≡ StretchAnswer.Stre
 stretch-inj e = cc
 
 refused-not : {e : Refusal} {s : Stretch} → StretchAnswer.Refused e ≡ StretchAnswer.Stretch s → ⊥
-refused-not c = let z : _≡_ {A = ℕ} 0 1 = cc in omega arith
+refused-not c = constructors-differ cc
 
 inside-from : (f : List ℕ) (k : ℕ) (a : RecordAnswer) {s : Stretch} → recordAnswer f k ≡ a → noteFrom a ≡ StretchAnswer.Stretch s → s .place + s .length ≤ length f
 unfolding noteFrom

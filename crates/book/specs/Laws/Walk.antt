@@ -5,7 +5,7 @@ use mathlib.Core.Path.{_≡_, refl, sym, _∙_, ap, subst}
 use mathlib.Core.List.{List}
 use native.Mathlib.Omega.{arith}
 use lib.ListN.{length}
-use Rattle.prelude.specs.Laws.Choice.{is-lt, is-ge, is-eq, is-ne, eq-elim, eq-take, eq-skip, lt-skip}
+use Rattle.prelude.specs.Laws.Choice.{is-lt, is-ge, is-eq, is-ne, eq-elim, eq-take, eq-skip, lt-skip, constructors-differ}
 use Rattle.prelude.specs.Refusals.{cutShort}
 use Rattle.prelude.specs.declared.refusals.Refusal.{Refusal}
 use Rattle.records.specs.Bodies.{judgeBody}
@@ -40,16 +40,16 @@ head-fine {size} {at} {t} {l} e =
     }
 
 pub no-end : {e : Refusal} → StepAnswer.Stopped e ≡ StepAnswer.End → ⊥
-no-end c = let z : _≡_ {A = ℕ} 0 1 = cc in omega arith
+no-end c = constructors-differ cc
 
 no-record : {e : Refusal} {n : ℕ} → StepAnswer.Stopped e ≡ StepAnswer.Record n → ⊥
-no-record c = let z : _≡_ {A = ℕ} 0 1 = cc in omega arith
+no-record c = constructors-differ cc
 
 end-no-record : {n : ℕ} → StepAnswer.End ≡ StepAnswer.Record n → ⊥
-end-no-record c = let z : _≡_ {A = ℕ} 0 1 = cc in omega arith
+end-no-record c = constructors-differ cc
 
 pub record-no-end : {n : ℕ} → StepAnswer.Record n ≡ StepAnswer.End → ⊥
-record-no-end c = let z : _≡_ {A = ℕ} 0 1 = cc in omega arith
+record-no-end c = constructors-differ cc
 
 record-inj : {n m : ℕ} → StepAnswer.Record n ≡ StepAnswer.Record m → n ≡ m
 record-inj e = cc

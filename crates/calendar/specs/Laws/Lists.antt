@@ -5,7 +5,7 @@ use mathlib.Core.Path.{_≡_, refl, sym, _∙_, ap}
 use mathlib.Core.Bool.{true, false, false≢true}
 use mathlib.Core.List.{List, [], _∷_}
 use native.Mathlib.Omega.{arith}
-use Rattle.prelude.specs.Laws.Choice.{is-lt, is-ge, is-eq, is-ne, is-true, is-false, lt-elim, eq-elim, lt-skip, eq-take, bool-cases}
+use Rattle.prelude.specs.Laws.Choice.{is-lt, is-ge, is-eq, is-ne, is-true, is-false, lt-elim, eq-elim, lt-skip, eq-take, bool-cases, constructors-differ}
 use Rattle.prelude.specs.Bytes.{byte}
 use Rattle.prelude.specs.Refusals.{badAppointment, refusalAt}
 use Rattle.prelude.specs.declared.refusals.Verdict.{Verdict}
@@ -144,7 +144,7 @@ unfolding verdictIn
 verdict-stop at = refl
 
 refused-not : {n p : ℕ} → Verdict.Refused (refusalAt n p) ≡ Verdict.Fine → ⊥
-refused-not c = let z : _≡_ {A = ℕ} 0 1 = cc in omega arith
+refused-not c = constructors-differ cc
 
 -- In a list without refusal an appointment stands before the end, and what comes after it is without refusal.
 module _ (f : List ℕ) (e low at : ℕ) (fine : verdictIn (listWalkFrom f e low at) ≡ Verdict.Fine) (h : at < e) where

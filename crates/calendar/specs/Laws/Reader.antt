@@ -6,7 +6,7 @@ use mathlib.Core.Bool.{true, false, false≢true}
 use mathlib.Core.List.{List}
 use native.Mathlib.Omega.{arith}
 use lib.ListN.{length}
-use Rattle.prelude.specs.Laws.Choice.{is-lt, is-ge, is-eq, is-true, is-false, lt-skip, eq-take, b-take}
+use Rattle.prelude.specs.Laws.Choice.{is-lt, is-ge, is-eq, is-true, is-false, lt-skip, eq-take, b-take, constructors-differ}
 use Rattle.prelude.specs.Bytes.{word}
 use Rattle.prelude.specs.Refusals.{badTable, badBlock, refusalAt}
 use Rattle.prelude.specs.Laws.Refusals.{verdict-not}
@@ -21,7 +21,7 @@ use Rattle.calendar.specs.declared.types.CalendarAnswer.{CalendarAnswer}
 use Rattle.calendar.specs.File.{lastBlock}
 
 answer-not : {e : Refusal} {n : ℕ} → CalendarAnswer.Refused e ≡ CalendarAnswer.Accepted n → ⊥
-answer-not c = let z : _≡_ {A = ℕ} 0 1 = cc in omega arith
+answer-not c = constructors-differ cc
 
 -- the table: of no descriptor, a day over the last, a day that does not rise, a day that does
 module _ (f : List ℕ) (p low : ℕ) where

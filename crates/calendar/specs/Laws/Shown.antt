@@ -5,7 +5,7 @@ use mathlib.Core.Path.{_≡_, refl, sym, _∙_, ap}
 use mathlib.Core.List.{List}
 use native.Mathlib.Omega.{arith}
 use lib.ListN.{length, getD, length-map, List·getD-map}
-use Rattle.prelude.specs.Laws.Choice.{lt-skip, lt-take}
+use Rattle.prelude.specs.Laws.Choice.{lt-skip, lt-take, constructors-differ}
 use Rattle.prelude.specs.Bytes.{stretchBytes}
 use Rattle.prelude.specs.declared.refusals.Refusal.{Refusal}
 use Rattle.days.specs.Days.{lastDay}
@@ -27,13 +27,13 @@ shownAs f e =
     record { minute = e .minute .0; flags = e .flags; text = stretchBytes f (e .text) }
 
 count-not : {e : Refusal} {n : ℕ} → CountAnswer.Refused e ≡ CountAnswer.Count n → ⊥
-count-not c = let z : _≡_ {A = ℕ} 0 1 = cc in omega arith
+count-not c = constructors-differ cc
 
 count-inj : {n m : ℕ} → CountAnswer.Count n ≡ CountAnswer.Count m → n ≡ m
 count-inj e = cc
 
 entry-not : {r : Refusal} {e : Entry} → EntryAnswer.Refused r ≡ EntryAnswer.Entry e → ⊥
-entry-not c = let z : _≡_ {A = ℕ} 0 1 = cc in omega arith
+entry-not c = constructors-differ cc
 
 entry-inj : {a b : Entry} → EntryAnswer.Entry a ≡ EntryAnswer.Entry b → a ≡ b
 entry-inj e = cc

@@ -7,7 +7,7 @@ use mathlib.Core.Logic.{⊎-elim}
 use mathlib.Core.List.{List, [], _∷_, List·Memᴰ, List·Memᴰ·cases-cons, List·Memᴰ·not-nil}
 use native.Mathlib.Omega.{arith}
 use lib.ListN.{length}
-use Rattle.prelude.specs.Laws.Choice.{lt-elim, eq-elim, lt-take, lt-skip, eq-take, eq-skip, b-take, b-skip}
+use Rattle.prelude.specs.Laws.Choice.{lt-elim, eq-elim, lt-take, lt-skip, eq-take, eq-skip, b-take, b-skip, constructors-differ}
 use Rattle.prelude.specs.Refusals.{badChain}
 use Rattle.prelude.specs.Laws.Refusals.{verdict-not}
 use Rattle.prelude.specs.Verdicts.{inTurn}
@@ -66,7 +66,7 @@ fine-passed t previous next kind minute e =
 days-fine : (k : ℕ) (v : Verdict) (n : ℕ) → chainsAnswered k v ≡ ChainsAnswer.Days n → (v ≡ Verdict.Fine) × (n ≡ k)
 unfolding chainsAnswered
 days-fine k Verdict.Fine n e = (refl, cc)
-days-fine k (Verdict.Refused x) n e = let z : _≡_ {A = ℕ} 0 1 = cc in absurd (omega arith)
+days-fine k (Verdict.Refused x) n e = absurd (constructors-differ cc)
 
 pub accepted-passed : (t previous next kind minute : List ℕ) (n : ℕ) → chainsAnswer t previous next kind minute ≡ ChainsAnswer.Days n → Passed t previous next kind minute × (n ≡ days t)
 unfolding chainsAnswer

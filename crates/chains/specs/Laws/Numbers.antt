@@ -6,7 +6,7 @@ use mathlib.Core.Bool.{Bool}
 use mathlib.Core.List.{List, [], _∷_}
 use native.Mathlib.Omega.{arith}
 use Rattle.prelude.specs.Choice.{ifB}
-use Rattle.prelude.specs.Laws.Choice.{b-elim, eq-elim}
+use Rattle.prelude.specs.Laws.Choice.{b-elim, eq-elim, constructors-differ}
 use Rattle.prelude.specs.Refusals.{badArrays, badDayTable, badChain, badChainOrder}
 use Rattle.prelude.specs.Laws.Refusals.{verdict-not}
 use Rattle.prelude.specs.Verdicts.{refused, unlessBad, andThen, inTurn}
@@ -79,7 +79,7 @@ verdict-numbered t previous next kind minute =
 
 answered-refused : (n : ℕ) (v : Verdict) (e : Refusal) → chainsAnswered n v ≡ ChainsAnswer.Refused e → v ≡ Verdict.Refused e
 unfolding chainsAnswered
-answered-refused n Verdict.Fine e h = let z : _≡_ {A = ℕ} 0 1 = cc in absurd (omega arith)
+answered-refused n Verdict.Fine e h = absurd (constructors-differ cc)
 answered-refused n (Verdict.Refused x) e h = cc
 
 pub refusal-number : (t previous next kind minute : List ℕ) (e : Refusal) → chainsAnswer t previous next kind minute ≡ ChainsAnswer.Refused e → (30 ≤ e .number) × (e .number ≤ 33)

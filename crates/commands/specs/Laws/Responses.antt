@@ -7,7 +7,7 @@ use mathlib.Core.Bool.{false}
 use mathlib.Core.List.{List}
 use native.Mathlib.Omega.{arith}
 use lib.ListN.{length, length-append}
-use Rattle.prelude.specs.Laws.Choice.{is-lt, is-ge, is-false, lt-skip, lt-take}
+use Rattle.prelude.specs.Laws.Choice.{is-lt, is-ge, is-false, lt-skip, lt-take, constructors-differ}
 use Rattle.prelude.specs.Splice.{splice}
 use Rattle.prelude.specs.declared.refusals.Refusal.{Refusal}
 use Rattle.digits.specs.Laws.Decimal.{length-below, length-word}
@@ -86,10 +86,10 @@ pub record Refused (f : List ℕ) (c : ShortMonth) (out : List ℕ) (q : Validat
   pub left : printLeaves f c out q ≡ out
 
 count-not : {n : ℕ} {e : Refusal} → CountAnswer.Refused e ≡ CountAnswer.Count n → ⊥
-count-not c = let z : _≡_ {A = ℕ} 0 1 = cc in omega arith
+count-not c = constructors-differ cc
 
 refused-not : {n : ℕ} {e : Refusal} → CountAnswer.Count n ≡ CountAnswer.Refused e → ⊥
-refused-not c = let z : _≡_ {A = ℕ} 0 1 = cc in omega arith
+refused-not c = constructors-differ cc
 
 count-inj : {n m : ℕ} → CountAnswer.Count n ≡ CountAnswer.Count m → n ≡ m
 count-inj e = cc

@@ -3,7 +3,7 @@
 use Prim.Native.Nat.{ℕ, _+_, _-_, _<_, _≤_}
 use mathlib.Core.Path.{_≡_, sym, _∙_, ap}
 use native.Mathlib.Omega.{arith}
-use Rattle.prelude.specs.Laws.Choice.{is-lt, is-ge, is-true, lt-skip, b-take}
+use Rattle.prelude.specs.Laws.Choice.{is-lt, is-ge, is-true, lt-skip, b-take, constructors-differ}
 use Rattle.prelude.specs.Refusals.{outOfRange, refusal}
 use Rattle.days.specs.Dates.{real, RealDate}
 use Rattle.days.specs.Days.{lastDay, dayNumber, dateOf}
@@ -24,21 +24,21 @@ use Rattle.days.specs.declared.answers.FactsAnswer.{FactsAnswer}
 pub date-given : {d : Date} {n : CalendarDay} → dateAnswer n ≡ DateAnswer.Date d → (n .0 ≤ lastDay) × (dateOf (n .0) ≡ d)
 unfolding dateAnswer
 date-given {d} {n} e =
-    let p = lt-skip lastDay (n .0) _ _ (λ c. let z : _≡_ {A = ℕ} 0 1 = cc in omega arith) e in
+    let p = lt-skip lastDay (n .0) _ _ (λ c. constructors-differ cc) e in
     let q : dateOf (n .0) ≡ d = cc (p .1) in
     (p .0, q)
 
 pub day-given : {d : Date} {n : CalendarDay} → dayAnswer d ≡ DayAnswer.Day n → RealDate d × (dayNumber d ≡ n .0)
 unfolding dayAnswer
 day-given {d} {n} e =
-    let p = b-take (real d) _ _ (λ c. let z : _≡_ {A = ℕ} 0 1 = cc in omega arith) e in
+    let p = b-take (real d) _ _ (λ c. constructors-differ cc) e in
     let q : _≡_ {A = CalendarDay} (record { 0 = dayNumber d }) n = cc (p .1) in
     (valid-facts (p .0), ap (λ (m : CalendarDay). m .0) q)
 
 pub facts-given : {f : DayFacts} {n : CalendarDay} → factsAnswer n ≡ FactsAnswer.Facts f → (n .0 ≤ lastDay) × (factsOf (n .0) ≡ f)
 unfolding factsAnswer
 facts-given {f} {n} e =
-    let p = lt-skip lastDay (n .0) _ _ (λ c. let z : _≡_ {A = ℕ} 0 1 = cc in omega arith) e in
+    let p = lt-skip lastDay (n .0) _ _ (λ c. constructors-differ cc) e in
     let q : factsOf (n .0) ≡ f = cc (p .1) in
     (p .0, q)
 
@@ -73,8 +73,8 @@ day-then-date {d} {n} e =
 pub psion-then-calendar : {p : PsionDay} {n : CalendarDay} → calendarOfPsion p ≡ DayAnswer.Day n → psionOfCalendar n ≡ PsionAnswer.Day p
 unfolding calendarOfPsion psionOfCalendar
 psion-then-calendar {p} {n} e =
-    let q = lt-skip (p .0) psionFirst _ _ (λ c. let z : _≡_ {A = ℕ} 0 1 = cc in omega arith) e in
-    let r = lt-skip psionLast (p .0) _ _ (λ c. let z : _≡_ {A = ℕ} 0 1 = cc in omega arith) (q .1) in
+    let q = lt-skip (p .0) psionFirst _ _ (λ c. constructors-differ cc) e in
+    let r = lt-skip psionLast (p .0) _ _ (λ c. constructors-differ cc) (q .1) in
     let s : _≡_ {A = CalendarDay} (record { 0 = p .0 - psionFirst }) n = cc (r .1) in
     let m : p .0 - psionFirst ≡ n .0 = ap (λ (k : CalendarDay). k .0) s in
     let low : psionFirst ≤ p .0 = q .0 in
@@ -85,7 +85,7 @@ psion-then-calendar {p} {n} e =
 pub calendar-then-psion : {p : PsionDay} {n : CalendarDay} → psionOfCalendar n ≡ PsionAnswer.Day p → calendarOfPsion p ≡ DayAnswer.Day n
 unfolding calendarOfPsion psionOfCalendar
 calendar-then-psion {p} {n} e =
-    let q = lt-skip (psionLast - psionFirst) (n .0) _ _ (λ c. let z : _≡_ {A = ℕ} 0 1 = cc in omega arith) e in
+    let q = lt-skip (psionLast - psionFirst) (n .0) _ _ (λ c. constructors-differ cc) e in
     let s : _≡_ {A = PsionDay} (record { 0 = n .0 + psionFirst }) p = cc (q .1) in
     let m : n .0 + psionFirst ≡ p .0 = ap (λ (k : PsionDay). k .0) s in
     let high : n .0 ≤ psionLast - psionFirst = q .0 in

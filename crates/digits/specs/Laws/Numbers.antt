@@ -9,7 +9,7 @@ use native.Mathlib.Omega.{arith}
 use native.Mathlib.Numerals.{add-one}
 use lib.ListN.{length, drop, drop-of-length-le}
 use lib.Seq.{drop-cons}
-use Rattle.prelude.specs.Laws.Choice.{is-lt, is-ge, is-eq, is-ne, lt-elim, lt-skip}
+use Rattle.prelude.specs.Laws.Choice.{is-lt, is-ge, is-eq, is-ne, lt-elim, lt-skip, constructors-differ}
 use Rattle.prelude.specs.Bytes.{byte}
 use Rattle.digits.specs.Digits.{decimal, valueFrom, value, allDigits, isNumber, capped}
 use Rattle.digits.specs.Laws.Decimal.{decimal-one, decimal-more, decimal-ind, length-positive}
@@ -90,7 +90,7 @@ digits-more (x ∷ xs) d h e =
     is-ge (low .0) _ _ ∙ (is-ge (high .0) _ _ ∙ digits-more xs d h (high .1))
   where
     no : false ≡ true → ⊥
-    no c = let z : _≡_ {A = ℕ} 0 1 = cc in omega arith
+    no c = constructors-differ cc
 
 -- What was printed is a number.
 pub number-decimal : (n : ℕ) → isNumber (decimal n) ≡ true

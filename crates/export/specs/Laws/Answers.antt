@@ -6,7 +6,7 @@ use mathlib.Core.Bool.{Bool, true, false, false≢true}
 use mathlib.Core.List.{List}
 use native.Mathlib.Omega.{arith}
 use lib.ListN.{length, take, drop}
-use Rattle.prelude.specs.Laws.Choice.{is-lt, is-ge, is-true, is-false, lt-elim, lt-skip, b-skip, b-take}
+use Rattle.prelude.specs.Laws.Choice.{is-lt, is-ge, is-true, is-false, lt-elim, lt-skip, b-skip, b-take, constructors-differ}
 use Rattle.prelude.specs.Refusals.{noRoom, tooManyBlocks, refusal}
 use Rattle.prelude.specs.Splice.{splice}
 use Rattle.prelude.specs.Laws.Splice.{take-splice, drop-splice}
@@ -49,7 +49,7 @@ unfolding spanOk
 count-beyond first count h = lt-elim (λ b. b ≡ false) lastDay first _ _ (λ _. refl) (λ _. is-lt h _ _)
 
 refused-not : {e : Refusal} {n : ℕ} → ExportAnswer.Refused e ≡ ExportAnswer.Written n → ⊥
-refused-not c = let z : _≡_ {A = ℕ} 0 1 = cc in omega arith
+refused-not c = constructors-differ cc
 
 written-inj : {n m : ℕ} → ExportAnswer.Written n ≡ ExportAnswer.Written m → n ≡ m
 written-inj e = cc

@@ -7,7 +7,7 @@ use mathlib.Core.List.{List, map}
 use native.Mathlib.Omega.{arith}
 use lib.ListN.{length, take, length-replicate, getD-replicate}
 use lib.Seq.{length-take-le, getD-take}
-use Rattle.prelude.specs.Laws.Choice.{eq-elim}
+use Rattle.prelude.specs.Laws.Choice.{eq-elim, constructors-differ}
 use Rattle.prelude.specs.declared.refusals.Refusal.{Refusal}
 use Rattle.sorting.specs.Keep.{keep}
 use Rattle.sorting.specs.Order.{sort}
@@ -130,7 +130,7 @@ first-facts first {g} e =
     record { day = d; facts = sym q ∙ ap factsOf (sym d) }
 
 pub first-not : (first : ℕ) {r : Refusal} → first ≤ lastDay → factsAnswer (record { 0 = first }) ≡ FactsAnswer.Refused r → ⊥
-first-not first h e = let q = sym (facts-in (record { 0 = first }) h) ∙ e in let z : _≡_ {A = ℕ} 0 1 = cc in omega arith
+first-not first h e = let q = sym (facts-in (record { 0 = first }) h) ∙ e in constructors-differ cc
 
 -- a span's answer and buffer, by the measure
 module _ (shows : ℕ → Numbered → Bool) (f : List ℕ) (first count : ℕ) where

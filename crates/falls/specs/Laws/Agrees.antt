@@ -6,7 +6,7 @@ use mathlib.Core.Bool.{Bool, true, false}
 use mathlib.Core.List.{List}
 use native.Mathlib.Omega.{arith}
 use Rattle.prelude.specs.Choice.{ifEq}
-use Rattle.prelude.specs.Laws.Choice.{is-eq, is-ne, is-false, eq-elim}
+use Rattle.prelude.specs.Laws.Choice.{is-eq, is-ne, is-false, eq-elim, constructors-differ}
 use Rattle.days.specs.declared.types.DayFacts.{DayFacts}
 use Rattle.records.specs.Fields.{datedOf, weeklyOf, monthlyByDateOf, monthlyByPositionOf, yearlyOf, recordOf}
 use Rattle.falls.specs.Falls.{datedFalls, weeklyFalls, byDateFalls, byPositionFalls, yearlyFalls, falls}
@@ -23,7 +23,7 @@ same-no : (a b : ℕ) (u : Bool) → ifEq a b true false ≡ false → ifEq a b 
 same-no a b u = both-no a b true false {u = u} (λ e. absurd (true-not e)) (λ e. e)
   where
     true-not : true ≡ false → ⊥
-    true-not e = let z : _≡_ {A = ℕ} 0 1 = cc in omega arith
+    true-not e = constructors-differ cc
 
 pub agrees-no : (c : ShortMonth) (f : DayFacts) (t : ℕ) (p : List ℕ) → agrees c f t p ≡ false → falls c f (recordOf t p) ≡ false
 unfolding agrees datedFalls datedOf weeklyFalls weeklyOf byDateFalls monthlyByDateOf byPositionFalls monthlyByPositionOf yearlyFalls yearlyOf

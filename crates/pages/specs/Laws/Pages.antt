@@ -7,7 +7,7 @@ use mathlib.Core.List.{List, [], _∷_, map}
 use native.Mathlib.Omega.{arith}
 use lib.ListN.{length, getD, drop}
 use lib.Seq.{drop-cons}
-use Rattle.prelude.specs.Laws.Choice.{is-lt, is-ge, lt-elim, lt-skip}
+use Rattle.prelude.specs.Laws.Choice.{is-lt, is-ge, lt-elim, lt-skip, constructors-differ}
 use Rattle.prelude.specs.declared.refusals.Refusal.{Refusal}
 use Rattle.sorting.specs.Keep.{keep}
 use Rattle.sorting.specs.Laws.Keep.{keep-nil, keep-yes, keep-no}
@@ -40,7 +40,7 @@ ready-most {f} {a} r =
     omega (arith, r .size, r .count)
 
 refused-not : {e : Refusal} {a : Ready} → Validated.Refused e ≡ Validated.Ready a → ⊥
-refused-not c = let z : _≡_ {A = ℕ} 0 1 = cc in omega arith
+refused-not c = constructors-differ cc
 
 ready-inj : {a b : Ready} → Validated.Ready a ≡ Validated.Ready b → a ≡ b
 ready-inj e = cc

@@ -8,6 +8,10 @@ use borrow.Author.Tests.{lt-ltb, le-ltb, eq-eqb, ne-eqb, ltb-true, ltb-false, eq
 use lib.Dec.{ltb, eqb}
 use Rattle.prelude.specs.Choice.{pick, ifLt, ifEq, ifB}
 
+-- Two constructors differ: `cc` finds this equation where one of theirs is given.
+pub constructors-differ : _≡_ {A = ℕ} 0 1 → ⊥
+constructors-differ z = omega arith
+
 -- What a choice is where its test is known. The proof stands first, so that `rw (is-lt h)` finds the rest.
 pub is-lt : {a b : ℕ} → a < b → {X : Type 0} (x y : X) → ifLt a b x y ≡ x
 unfolding ifLt

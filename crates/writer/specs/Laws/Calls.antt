@@ -8,7 +8,7 @@ use native.Mathlib.Omega.{arith}
 use lib.ListN.{length}
 use lib.Dec.{eqb·suc-zero}
 use Rattle.prelude.specs.Choice.{ifEq}
-use Rattle.prelude.specs.Laws.Choice.{is-true, is-false, is-ge, lt-skip, b-take}
+use Rattle.prelude.specs.Laws.Choice.{is-true, is-false, is-ge, lt-skip, b-take, constructors-differ}
 use Rattle.prelude.specs.Bytes.{le16}
 use Rattle.prelude.specs.Splice.{splice}
 use Rattle.prelude.specs.declared.refusals.Refusal.{Refusal}
@@ -33,7 +33,7 @@ unfolding openBytes le16
 length-open s = refl
 
 refused-not : {e : Refusal} {w : Writer} {b : List ℕ} → refused e ≡ done w b → ⊥
-refused-not c = let z : _≡_ {A = ℕ} 0 1 = cc in omega arith
+refused-not c = constructors-differ cc
 
 -- A call in a run: with no refusal the run goes on from what was written.
 module _ (n : ℕ) (next came : Writer) (b : List ℕ) (at : ℕ) (bytes : List ℕ) (go : Writer → List ℕ → Run) where
