@@ -1,8 +1,9 @@
 // Day pages, lent and printed, and the next occurrence.
 ghost use mathlib.Core.Path.{_≡_};
 ghost use lib.ListN.{length};
-ghost use Rattle.pages.specs.Answers.{validated, fallsIn, pageCountIn, pageLineIn, nextIn};
-ghost use Rattle.printing.specs.Answers.{pageLengthIn, printIn, printLeaves};
+ghost use Rattle.pages.specs.Answers.{pageCount, pageLineAt, nextOccurrence, recordFalls};
+ghost use Rattle.pages.specs.Pages.{fallsOn};
+ghost use Rattle.printing.specs.Answers.{pageLength, printGives, printLeft};
 ghost use Rattle.marshal.specs.PageAnswers.{choiceOf, dayOf, fallsOut, countOut, pageLineOut, nextOut};
 use days::types::CalendarDay;
 use falls::types::ShortMonth;
@@ -19,7 +20,7 @@ use marshal::page_answers::page_line_out;
 #[no_mangle]
 pub extern "C" fn apptbook_falls_on(file: &[u8], record: usize, day: u16, last: bool) -> FallsOut
     ensures { λ r.
-        ⌜ r ≡ fallsOut (fallsIn (now (file .entry)) (choiceOf last) «record» (validated (now (file .entry)) (dayOf day))) ⌝ }
+        ⌜ r ≡ fallsOut (recordFalls (now (file .entry)) (choiceOf last) (dayOf day) «record») ⌝ }
 {
     let c: ShortMonth = choice_of(last);
     let n = CalendarDay(day);
@@ -28,7 +29,7 @@ pub extern "C" fn apptbook_falls_on(file: &[u8], record: usize, day: u16, last: 
 
 #[no_mangle]
 pub extern "C" fn apptbook_page_lines(file: &[u8], day: u16, last: bool) -> CountOut
-    ensures { λ r. ⌜ r ≡ countOut (pageCountIn (now (file .entry)) (choiceOf last) (validated (now (file .entry)) (dayOf day))) ⌝ }
+    ensures { λ r. ⌜ r ≡ countOut (pageCount (fallsOn (choiceOf last)) (now (file .entry)) (dayOf day)) ⌝ }
 {
     let c: ShortMonth = choice_of(last);
     let n = CalendarDay(day);
@@ -38,7 +39,7 @@ pub extern "C" fn apptbook_page_lines(file: &[u8], day: u16, last: bool) -> Coun
 #[no_mangle]
 pub extern "C" fn apptbook_page_line(file: &[u8], day: u16, last: bool, line: usize) -> PageLineOut
     ensures { λ r.
-        ⌜ r ≡ pageLineOut (pageLineIn (now (file .entry)) (choiceOf last) line (validated (now (file .entry)) (dayOf day))) ⌝ }
+        ⌜ r ≡ pageLineOut (pageLineAt (fallsOn (choiceOf last)) (now (file .entry)) (dayOf day) line) ⌝ }
 {
     let c: ShortMonth = choice_of(last);
     let n = CalendarDay(day);
@@ -53,7 +54,7 @@ pub extern "C" fn apptbook_next_occurrence(
     last: bool,
 ) -> OccurrenceOut
     ensures { λ r.
-        ⌜ r ≡ nextOut (nextIn (now (file .entry)) (choiceOf last) «record» (validated (now (file .entry)) (dayOf day))) ⌝ }
+        ⌜ r ≡ nextOut (nextOccurrence (fallsOn (choiceOf last)) (now (file .entry)) (dayOf day) «record») ⌝ }
 {
     let c: ShortMonth = choice_of(last);
     let n = CalendarDay(day);
@@ -62,7 +63,7 @@ pub extern "C" fn apptbook_next_occurrence(
 
 #[no_mangle]
 pub extern "C" fn apptbook_page_length(file: &[u8], day: u16, last: bool) -> CountOut
-    ensures { λ r. ⌜ r ≡ countOut (pageLengthIn (now (file .entry)) (choiceOf last) (validated (now (file .entry)) (dayOf day))) ⌝ }
+    ensures { λ r. ⌜ r ≡ countOut (pageLength (fallsOn (choiceOf last)) (now (file .entry)) (dayOf day)) ⌝ }
 {
     let c: ShortMonth = choice_of(last);
     let n = CalendarDay(day);
@@ -77,9 +78,9 @@ pub extern "C" fn apptbook_print_page(
     buffer: &mut [u8],
 ) -> CountOut
     ensures gives { λ r.
-        ⌜ r ≡ countOut (printIn (now (file .entry)) (choiceOf last) (length (now (buffer .entry))) (validated (now (file .entry)) (dayOf day))) ⌝ }
+        ⌜ r ≡ countOut (printGives (fallsOn (choiceOf last)) (now (file .entry)) (dayOf day) (length (now (buffer .entry)))) ⌝ }
     ensures leaves { λ _.
-        ⌜ now (buffer .exit) ≡ printLeaves (now (file .entry)) (choiceOf last) (now (buffer .entry)) (validated (now (file .entry)) (dayOf day)) ⌝ }
+        ⌜ now (buffer .exit) ≡ printLeft (fallsOn (choiceOf last)) (now (file .entry)) (dayOf day) (now (buffer .entry)) ⌝ }
 {
     let c: ShortMonth = choice_of(last);
     let n = CalendarDay(day);

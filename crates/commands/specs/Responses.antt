@@ -12,6 +12,7 @@ use Rattle.book.specs.declared.types.BookAnswer.{BookAnswer}
 use Rattle.falls.specs.declared.types.ShortMonth.{ShortMonth}
 use Rattle.pages.specs.Answers.{validated}
 use Rattle.pages.specs.declared.types.Validated.{Validated}
+use Rattle.pages.specs.Pages.{fallsOn}
 use Rattle.printing.specs.Printed.{newline, space, pageText}
 use Rattle.export.specs.Export.{exportFile, exportAnswer, showsUnder}
 use Rattle.export.specs.declared.answers.ExportAnswer.{ExportAnswer}
@@ -24,7 +25,7 @@ refusalText e = decimal (e .number) ++ (space ∷ (decimal (e .place) ++ (newlin
 -- a day page, in so many bytes of room
 unfoldable pub pageResponse : List ℕ → ShortMonth → ℕ → Validated → List ℕ
 pageResponse f c room (Validated.Ready a) =
-    ifLt room (length (pageText f c (a .facts))) (refusalText (refusal noRoom)) (pageText f c (a .facts))
+    ifLt room (length (pageText (fallsOn c) f (a .facts))) (refusalText (refusal noRoom)) (pageText (fallsOn c) f (a .facts))
 pageResponse f c room (Validated.Refused e) = refusalText e
 
 -- "Its Calendar room is 65,536 bytes"

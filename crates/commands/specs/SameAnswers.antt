@@ -2,13 +2,16 @@
 -- Assumes nothing.
 use Prim.Native.Nat.{ℕ}
 use mathlib.Core.Path.{_≡_}
+use mathlib.Core.Bool.{Bool}
 use mathlib.Core.List.{List}
 use Rattle.days.specs.declared.types.CalendarDay.{CalendarDay}
+use Rattle.days.specs.declared.types.DayFacts.{DayFacts}
 use Rattle.book.specs.Books.{bookOf, recordAnswer, recordTextIn, recordNoteIn}
 use Rattle.book.specs.Lines.{linesAnswer, lineAnswer}
 use Rattle.falls.specs.declared.types.ShortMonth.{ShortMonth}
-use Rattle.pages.specs.Answers.{validated, fallsIn, pageCountIn, pageLineIn, lineText, nextIn}
-use Rattle.printing.specs.Answers.{pageLengthIn, printIn, printLeaves}
+use Rattle.pages.specs.Answers.{lineText, pageCount, pageLineAt, nextOccurrence, recordFalls}
+use Rattle.pages.specs.Pages.{Numbered}
+use Rattle.printing.specs.Answers.{pageLength, printGives, printLeft}
 use Rattle.export.specs.Export.{exportAnswer, exportLeaves, showsUnder}
 use Rattle.commands.specs.Responses.{response}
 use Rattle.commands.specs.declared.types.Command.{Command}
@@ -23,15 +26,15 @@ pub record SameAnswers (f g : List ℕ) : Type 0 where
   pub note-lines : (k : ℕ) → linesAnswer g k ≡ linesAnswer f k
   pub note-line : (k j : ℕ) → lineAnswer g k j ≡ lineAnswer f k j
   -- falls on, next occurrence
-  pub falls : (d : CalendarDay) (c : ShortMonth) (k : ℕ) → fallsIn g c k (validated g d) ≡ fallsIn f c k (validated f d)
-  pub next : (d : CalendarDay) (c : ShortMonth) (k : ℕ) → nextIn g c k (validated g d) ≡ nextIn f c k (validated f d)
+  pub falls : (d : CalendarDay) (c : ShortMonth) (k : ℕ) → recordFalls g c d k ≡ recordFalls f c d k
+  pub next : (d : CalendarDay) (shows : DayFacts → Numbered → Bool) (k : ℕ) → nextOccurrence shows g d k ≡ nextOccurrence shows f d k
   -- a page: its number of lines, a line and its text; printed: its length, the answer and the buffer
-  pub lines : (d : CalendarDay) (c : ShortMonth) → pageCountIn g c (validated g d) ≡ pageCountIn f c (validated f d)
-  pub line : (d : CalendarDay) (c : ShortMonth) (k : ℕ) → pageLineIn g c k (validated g d) ≡ pageLineIn f c k (validated f d)
-  pub line-text : (d : CalendarDay) (c : ShortMonth) (k : ℕ) → lineText g (pageLineIn g c k (validated g d)) ≡ lineText f (pageLineIn f c k (validated f d))
-  pub print-length : (d : CalendarDay) (c : ShortMonth) → pageLengthIn g c (validated g d) ≡ pageLengthIn f c (validated f d)
-  pub print : (d : CalendarDay) (c : ShortMonth) (room : ℕ) → printIn g c room (validated g d) ≡ printIn f c room (validated f d)
-  pub printed : (d : CalendarDay) (c : ShortMonth) (out : List ℕ) → printLeaves g c out (validated g d) ≡ printLeaves f c out (validated f d)
+  pub lines : (d : CalendarDay) (shows : DayFacts → Numbered → Bool) → pageCount shows g d ≡ pageCount shows f d
+  pub line : (d : CalendarDay) (shows : DayFacts → Numbered → Bool) (k : ℕ) → pageLineAt shows g d k ≡ pageLineAt shows f d k
+  pub line-text : (d : CalendarDay) (shows : DayFacts → Numbered → Bool) (k : ℕ) → lineText g (pageLineAt shows g d k) ≡ lineText f (pageLineAt shows f d k)
+  pub print-length : (d : CalendarDay) (shows : DayFacts → Numbered → Bool) → pageLength shows g d ≡ pageLength shows f d
+  pub print : (d : CalendarDay) (shows : DayFacts → Numbered → Bool) (room : ℕ) → printGives shows g d room ≡ printGives shows f d room
+  pub printed : (d : CalendarDay) (shows : DayFacts → Numbered → Bool) (out : List ℕ) → printLeft shows g d out ≡ printLeft shows f d out
   -- the export: the answer and the buffer
   pub export : (c : ShortMonth) (first count room : ℕ) → exportAnswer (showsUnder c) g first count room ≡ exportAnswer (showsUnder c) f first count room
   pub exported : (c : ShortMonth) (first count : ℕ) (out : List ℕ) → exportLeaves (showsUnder c) g first count out ≡ exportLeaves (showsUnder c) f first count out

@@ -2,8 +2,9 @@
 ghost use mathlib.Core.Path.{_≡_};
 ghost use Prim.Native.Nat.{_≤_};
 ghost use lib.ListN.{length};
-ghost use Rattle.pages.specs.Answers.{validated, pageCountIn, pageLineIn, lineText};
+ghost use Rattle.pages.specs.Answers.{pageLineIn, lineText, pageCount, pageLineAt};
 ghost use Rattle.pages.specs.Invariants.{ReadyBook};
+ghost use Rattle.pages.specs.Pages.{fallsOn};
 use crate::collecting::count_lines;
 use crate::ordering::line_of;
 use crate::ordering::page_codes;
@@ -21,7 +22,7 @@ use prelude::slices::part;
 
 // The number of lines of a day's page.
 pub fn page_lines(file: &[u8], n: CalendarDay, c: ShortMonth) -> CountAnswer
-    ensures { λ r. ⌜ r ≡ pageCountIn (now (file .entry)) c (validated (now (file .entry)) n) ⌝ }
+    ensures { λ r. ⌜ r ≡ pageCount (fallsOn c) (now (file .entry)) n ⌝ }
 {
     let a = validate(file, n);
     match a {
@@ -41,7 +42,7 @@ fn line_with(
     requires { ⌜ ReadyBook (now file) a ⌝ }
     requires { ⌜ a .records ≤ length (now codes) ⌝ }
     requires { ⌜ length (now codes) ≤ length (now spare) ⌝ }
-    ensures { λ r. ⌜ r ≡ pageLineIn (now (file .entry)) c k (Validated.Ready a) ⌝ }
+    ensures { λ r. ⌜ r ≡ pageLineIn (fallsOn c) (now (file .entry)) k (Validated.Ready a) ⌝ }
 {
     let n = page_codes(file, c, a, codes, spare);
     if k < n {
@@ -56,7 +57,7 @@ fn line_with(
 // A book of few records needs little working space.
 fn line_in(file: &[u8], c: ShortMonth, k: usize, a: Ready) -> LineAnswer
     requires { ⌜ ReadyBook (now file) a ⌝ }
-    ensures { λ r. ⌜ r ≡ pageLineIn (now (file .entry)) c k (Validated.Ready a) ⌝ }
+    ensures { λ r. ⌜ r ≡ pageLineIn (fallsOn c) (now (file .entry)) k (Validated.Ready a) ⌝ }
 {
     if a.records <= 64 {
         let mut codes = [0u64; 64];
@@ -70,7 +71,7 @@ fn line_in(file: &[u8], c: ShortMonth, k: usize, a: Ready) -> LineAnswer
 
 // The line at a place of a day's page.
 pub fn line_at(file: &[u8], n: CalendarDay, c: ShortMonth, k: usize) -> LineAnswer
-    ensures { λ r. ⌜ r ≡ pageLineIn (now (file .entry)) c k (validated (now (file .entry)) n) ⌝ }
+    ensures { λ r. ⌜ r ≡ pageLineAt (fallsOn c) (now (file .entry)) n k ⌝ }
 {
     let a = validate(file, n);
     match a {
@@ -82,7 +83,7 @@ pub fn line_at(file: &[u8], n: CalendarDay, c: ShortMonth, k: usize) -> LineAnsw
 // The text of that line, as that stretch of the caller's file; nothing where there is no such line.
 pub fn line_text(file: &[u8], n: CalendarDay, c: ShortMonth, k: usize) -> &[u8]
     ensures { λ r.
-        ⌜ now r ≡ lineText (now (file .entry)) (pageLineIn (now (file .entry)) c k (validated (now (file .entry)) n)) ⌝ }
+        ⌜ now r ≡ lineText (now (file .entry)) (pageLineAt (fallsOn c) (now (file .entry)) n k) ⌝ }
 {
     let a = line_at(file, n, c, k);
     match a {

@@ -8,9 +8,10 @@ ghost use Rattle.book.specs.Books.{entryAt};
 ghost use Rattle.book.specs.Invariants.{RecordAt};
 ghost use Rattle.falls.specs.Falls.{falls};
 ghost use Rattle.day_steps.specs.Moves.{FactsAt};
-ghost use Rattle.pages.specs.Answers.{validated, fallsIn, nextIn};
+ghost use Rattle.pages.specs.Answers.{fallsIn, nextIn, nextOccurrence, recordFalls};
 ghost use Rattle.pages.specs.Next.{nextOf};
 ghost use Rattle.pages.specs.Invariants.{ReadyBook};
+ghost use Rattle.pages.specs.Pages.{fallsOn};
 use crate::types::FallsAnswer;
 use crate::types::NextAnswer;
 use crate::types::Occurrence;
@@ -56,7 +57,7 @@ fn falls_in(file: &[u8], c: ShortMonth, k: usize, a: Ready) -> FallsAnswer
 
 // Whether the record of a number falls on a day.
 pub fn record_falls(file: &[u8], k: usize, n: CalendarDay, c: ShortMonth) -> FallsAnswer
-    ensures { λ r. ⌜ r ≡ fallsIn (now (file .entry)) c k (validated (now (file .entry)) n) ⌝ }
+    ensures { λ r. ⌜ r ≡ recordFalls (now (file .entry)) c n k ⌝ }
 {
     let a = validate(file, n);
     match a {
@@ -85,7 +86,7 @@ fn search_on(t: u8, p: &[u8], c: ShortMonth, from: DayFacts) -> NextAnswer
 
 fn next_in(file: &[u8], c: ShortMonth, k: usize, a: Ready) -> NextAnswer
     requires { ⌜ ReadyBook (now file) a ⌝ }
-    ensures { λ r. ⌜ r ≡ nextIn (now (file .entry)) c k (Validated.Ready a) ⌝ }
+    ensures { λ r. ⌜ r ≡ nextIn (fallsOn c) (now (file .entry)) k (Validated.Ready a) ⌝ }
 {
     if k < a.records {
         let at = place_of(file, k);
@@ -103,7 +104,7 @@ fn next_in(file: &[u8], c: ShortMonth, k: usize, a: Ready) -> NextAnswer
 
 // The next occurrence of the record of a number, from a day on.
 pub fn next_occurrence(file: &[u8], k: usize, n: CalendarDay, c: ShortMonth) -> NextAnswer
-    ensures { λ r. ⌜ r ≡ nextIn (now (file .entry)) c k (validated (now (file .entry)) n) ⌝ }
+    ensures { λ r. ⌜ r ≡ nextOccurrence (fallsOn c) (now (file .entry)) n k ⌝ }
 {
     let a = validate(file, n);
     match a {

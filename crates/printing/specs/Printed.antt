@@ -2,6 +2,7 @@
 -- Year in four digits, month, day, hour and minute in two; each line is ended by 0Ah.
 -- Assumes nothing.
 use Prim.Native.Nat.{ℕ, _/_, _%_}
+use mathlib.Core.Bool.{Bool}
 use mathlib.Core.List.{List, [], _∷_, _++_, map}
 use lib.ListN.{length}
 use Rattle.prelude.specs.Choice.{ifEq}
@@ -9,8 +10,7 @@ use Rattle.prelude.specs.Bytes.{stretchBytes}
 use Rattle.digits.specs.Digits.{two, four, decimal}
 use Rattle.days.specs.declared.types.Date.{Date}
 use Rattle.days.specs.declared.types.DayFacts.{DayFacts}
-use Rattle.falls.specs.declared.types.ShortMonth.{ShortMonth}
-use Rattle.pages.specs.Pages.{pageOn, pageLineOf}
+use Rattle.pages.specs.Pages.{Numbered, pageOf, pageLineOf}
 use Rattle.pages.specs.declared.types.Line.{Line}
 
 abbrev pub newline : ℕ
@@ -60,6 +60,6 @@ pageLines f (l ∷ ls) = pageLine f l ++ pageLines f ls
 unfoldable pub printed : List ℕ → DayFacts → List Line → List ℕ
 printed f d ls = headLine d (length ls) ++ pageLines f ls
 
--- the printed page of the day whose facts are d
-unfoldable pub pageText : List ℕ → ShortMonth → DayFacts → List ℕ
-pageText f c d = printed f d (map pageLineOf (pageOn c d f))
+-- the printed page of the day whose facts are d, for any test of what shows
+unfoldable pub pageText : (DayFacts → Numbered → Bool) → List ℕ → DayFacts → List ℕ
+pageText shows f d = printed f d (map pageLineOf (pageOf (shows d) f))

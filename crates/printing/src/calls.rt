@@ -3,11 +3,11 @@ ghost use mathlib.Core.Path.{_≡_};
 ghost use Prim.Native.Nat.{_+_, _≤_};
 ghost use lib.ListN.{length};
 ghost use Rattle.prelude.specs.Splice.{splice};
-ghost use Rattle.pages.specs.Answers.{validated};
 ghost use Rattle.pages.specs.Invariants.{ReadyBook};
 ghost use Rattle.pages.specs.declared.types.Validated.{Validated};
+ghost use Rattle.pages.specs.Pages.{fallsOn};
 ghost use Rattle.printing.specs.Coded.{codedText};
-ghost use Rattle.printing.specs.Answers.{textGives, textLeaves, pageLengthIn, printIn, printLeaves};
+ghost use Rattle.printing.specs.Answers.{textGives, textLeaves, printIn, printLeaves, pageLength, printGives, printLeft};
 use crate::measures::coded_size;
 use crate::measures::page_size;
 use crate::puts::put_head;
@@ -26,7 +26,7 @@ use prelude::refusals::Refusal;
 
 // How many bytes the printed page of a day has.
 pub fn page_length(file: &[u8], n: CalendarDay, c: ShortMonth) -> CountAnswer
-    ensures { λ r. ⌜ r ≡ pageLengthIn (now (file .entry)) c (validated (now (file .entry)) n) ⌝ }
+    ensures { λ r. ⌜ r ≡ pageLength (fallsOn c) (now (file .entry)) n ⌝ }
 {
     let a = validate(file, n);
     match a {
@@ -71,8 +71,8 @@ fn print_with(
     requires { ⌜ ReadyBook (now file) a ⌝ }
     requires { ⌜ a .records ≤ length (now codes) ⌝ }
     requires { ⌜ length (now codes) ≤ length (now spare) ⌝ }
-    ensures gives { λ r. ⌜ r ≡ printIn (now (file .entry)) c (length (now (out .entry))) (Validated.Ready a) ⌝ }
-    ensures leaves { λ _. ⌜ now (out .exit) ≡ printLeaves (now (file .entry)) c (now (out .entry)) (Validated.Ready a) ⌝ }
+    ensures gives { λ r. ⌜ r ≡ printIn (fallsOn c) (now (file .entry)) (length (now (out .entry))) (Validated.Ready a) ⌝ }
+    ensures leaves { λ _. ⌜ now (out .exit) ≡ printLeaves (fallsOn c) (now (file .entry)) (now (out .entry)) (Validated.Ready a) ⌝ }
 {
     let n = page_codes(file, c, a, codes, spare);
     let f = a.facts;
@@ -82,8 +82,8 @@ fn print_with(
 // A book of few records needs little working space.
 fn print_in(file: &[u8], c: ShortMonth, a: Ready, out: &mut [u8]) -> CountAnswer
     requires { ⌜ ReadyBook (now file) a ⌝ }
-    ensures gives { λ r. ⌜ r ≡ printIn (now (file .entry)) c (length (now (out .entry))) (Validated.Ready a) ⌝ }
-    ensures leaves { λ _. ⌜ now (out .exit) ≡ printLeaves (now (file .entry)) c (now (out .entry)) (Validated.Ready a) ⌝ }
+    ensures gives { λ r. ⌜ r ≡ printIn (fallsOn c) (now (file .entry)) (length (now (out .entry))) (Validated.Ready a) ⌝ }
+    ensures leaves { λ _. ⌜ now (out .exit) ≡ printLeaves (fallsOn c) (now (file .entry)) (now (out .entry)) (Validated.Ready a) ⌝ }
 {
     if a.records <= 64 {
         let mut codes = [0u64; 64];
@@ -97,8 +97,8 @@ fn print_in(file: &[u8], c: ShortMonth, a: Ready, out: &mut [u8]) -> CountAnswer
 
 // The printed page of a day at the start of a lent buffer, and how many bytes it has.
 pub fn print_page(file: &[u8], n: CalendarDay, c: ShortMonth, out: &mut [u8]) -> CountAnswer
-    ensures gives { λ r. ⌜ r ≡ printIn (now (file .entry)) c (length (now (out .entry))) (validated (now (file .entry)) n) ⌝ }
-    ensures leaves { λ _. ⌜ now (out .exit) ≡ printLeaves (now (file .entry)) c (now (out .entry)) (validated (now (file .entry)) n) ⌝ }
+    ensures gives { λ r. ⌜ r ≡ printGives (fallsOn c) (now (file .entry)) n (length (now (out .entry))) ⌝ }
+    ensures leaves { λ _. ⌜ now (out .exit) ≡ printLeft (fallsOn c) (now (file .entry)) n (now (out .entry)) ⌝ }
 {
     let a = validate(file, n);
     match a {

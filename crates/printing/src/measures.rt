@@ -5,7 +5,7 @@ ghost use Prim.Native.Nat.{_+_, _≤_};
 ghost use lib.ListN.{length};
 ghost use Rattle.prelude.specs.Bytes.{stretchBytes};
 ghost use Rattle.book.specs.Books.{entryAt, mostBookBytes};
-ghost use Rattle.pages.specs.Pages.{pageOn, pageLineOf};
+ghost use Rattle.pages.specs.Pages.{pageOn, pageLineOf, fallsOn};
 ghost use Rattle.pages.specs.Invariants.{ReadyBook};
 ghost use Rattle.printing.specs.Printed.{pageLines, pageText};
 ghost use Rattle.printing.specs.Coded.{codedLines, codedText};
@@ -56,7 +56,7 @@ fn measure(file: &[u8], c: ShortMonth, a: Ready) -> Size
 // The bytes of the whole page.
 pub fn page_size(file: &[u8], c: ShortMonth, a: Ready) -> usize
     requires { ⌜ ReadyBook (now file) a ⌝ }
-    ensures { λ r. ⌜ r ≡ length (pageText (now (file .entry)) c (a .facts)) ⌝ }
+    ensures { λ r. ⌜ r ≡ length (pageText (fallsOn c) (now (file .entry)) (a .facts)) ⌝ }
 {
     let s = measure(file, c, a);
     16 + decimal_length(s.lines) + s.bytes

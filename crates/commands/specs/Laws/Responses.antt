@@ -20,6 +20,7 @@ use Rattle.pages.specs.Laws.Pages.{validated-ready}
 use Rattle.pages.specs.declared.types.Ready.{Ready}
 use Rattle.pages.specs.declared.types.Validated.{Validated}
 use Rattle.pages.specs.declared.types.CountAnswer.{CountAnswer}
+use Rattle.pages.specs.Pages.{fallsOn}
 use Rattle.printing.specs.Printed.{pageText}
 use Rattle.printing.specs.Answers.{printIn, printLeaves}
 use Rattle.printing.specs.Laws.Sizes.{page-most}
@@ -69,21 +70,21 @@ unfolding exportResponse exportAnswer
 export-beyond f c room first count h = beyond-span-of f c room first count (bookOf f) h
 
 -- 12 never happens to a page in the program's room
-pub page-whole : (f : List ℕ) (d : ℕ) (c : ShortMonth) {a : Ready} → validated f (record { 0 = d }) ≡ Validated.Ready a → response f (Command.Page d c) programRoom ≡ pageText f c (a .facts)
+pub page-whole : (f : List ℕ) (d : ℕ) (c : ShortMonth) {a : Ready} → validated f (record { 0 = d }) ≡ Validated.Ready a → response f (Command.Page d c) programRoom ≡ pageText (fallsOn c) f (a .facts)
 unfolding response pageResponse
 page-whole f d c {a} q =
-    let m = page-most f c a (validated-ready f (record { 0 = d }) q) in
+    let m = page-most (fallsOn c) f a (validated-ready f (record { 0 = d }) q) in
     ap (pageResponse f c programRoom) q ∙ is-ge (omega arith) _ _
 
 -- what a printed page's answer says of the bytes that the program writes
 pub record CountedResponse (f : List ℕ) (c : ShortMonth) (out : List ℕ) (q : Validated) (n : ℕ) : Type 0 where
   pub next : n ≡ length (pageResponse f c (length out) q)
-  pub put : printLeaves f c out q ≡ splice out 0 (pageResponse f c (length out) q)
+  pub put : printLeaves (fallsOn c) f out q ≡ splice out 0 (pageResponse f c (length out) q)
   pub within : n ≤ length out
 
 pub record Refused (f : List ℕ) (c : ShortMonth) (out : List ℕ) (q : Validated) (e : Refusal) : Type 0 where
   pub text : pageResponse f c (length out) q ≡ refusalText e
-  pub left : printLeaves f c out q ≡ out
+  pub left : printLeaves (fallsOn c) f out q ≡ out
 
 count-not : {n : ℕ} {e : Refusal} → CountAnswer.Refused e ≡ CountAnswer.Count n → ⊥
 count-not c = constructors-differ cc
@@ -97,11 +98,11 @@ count-inj e = cc
 refused-inj : {a b : Refusal} → CountAnswer.Refused a ≡ CountAnswer.Refused b → a ≡ b
 refused-inj e = cc
 
-pub print-count : (f : List ℕ) (c : ShortMonth) (out : List ℕ) (q : Validated) {n : ℕ} → printIn f c (length out) q ≡ CountAnswer.Count n → CountedResponse f c out q n
+pub print-count : (f : List ℕ) (c : ShortMonth) (out : List ℕ) (q : Validated) {n : ℕ} → printIn (fallsOn c) f (length out) q ≡ CountAnswer.Count n → CountedResponse f c out q n
 unfolding printIn printLeaves pageResponse
 print-count f c out (Validated.Ready a) e =
-    let p = lt-skip (length out) (length (pageText f c (a .facts))) _ _ count-not e in
-    let l : length (pageText f c (a .facts)) ≤ length out = p .0 in
+    let p = lt-skip (length out) (length (pageText (fallsOn c) f (a .facts))) _ _ count-not e in
+    let l : length (pageText (fallsOn c) f (a .facts)) ≤ length out = p .0 in
     let n = count-inj (p .1) in
     record {
       next = sym n ∙ ap length (sym (is-ge l _ _));
@@ -110,10 +111,10 @@ print-count f c out (Validated.Ready a) e =
     }
 print-count f c out (Validated.Refused r) e = absurd (count-not e)
 
-pub print-refused : (f : List ℕ) (c : ShortMonth) (out : List ℕ) (q : Validated) {e : Refusal} → printIn f c (length out) q ≡ CountAnswer.Refused e → Refused f c out q e
+pub print-refused : (f : List ℕ) (c : ShortMonth) (out : List ℕ) (q : Validated) {e : Refusal} → printIn (fallsOn c) f (length out) q ≡ CountAnswer.Refused e → Refused f c out q e
 unfolding printIn printLeaves pageResponse
 print-refused f c out (Validated.Ready a) e =
-    let p = lt-take (length out) (length (pageText f c (a .facts))) _ _ refused-not e in
+    let p = lt-take (length out) (length (pageText (fallsOn c) f (a .facts))) _ _ refused-not e in
     record { text = is-lt (p .0) _ _ ∙ ap refusalText (refused-inj (p .1)); left = is-lt (p .0) _ _ }
 print-refused f c out (Validated.Refused r) e = record { text = ap refusalText (refused-inj e); left = refl }
 

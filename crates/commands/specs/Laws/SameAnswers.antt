@@ -13,10 +13,10 @@ use Rattle.book.specs.Laws.SameBook.{unfilled-same}
 use Rattle.book.specs.declared.types.Book.{Book}
 use Rattle.book.specs.declared.types.BookAnswer.{BookAnswer}
 use Rattle.falls.specs.declared.types.ShortMonth.{ShortMonth}
-use Rattle.pages.specs.Pages.{fallsOn}
 use Rattle.pages.specs.Answers.{validated, fallsIn, pageCountIn, pageLineIn, lineText, nextIn}
 use Rattle.pages.specs.declared.types.Ready.{Ready}
 use Rattle.pages.specs.declared.types.Validated.{Validated}
+use Rattle.pages.specs.Pages.{fallsOn}
 use Rattle.printing.specs.Answers.{pageLengthIn, printIn, printLeaves}
 use Rattle.export.specs.Export.{spanAnswer, exportFrom, exportAnswer, exportLeaves, showsUnder}
 use Rattle.commands.specs.Responses.{pageResponse, exportResponse, response}
@@ -47,7 +47,7 @@ module _ (f g : List ℕ) (s : SameBook f g) where
   program-same : (c : Command) (room : ℕ) → response g c room ≡ response f c room
   unfolding response pageResponse exportResponse
   program-same (Command.Page d c) room =
-      on-day (record { 0 = d }) (pageResponse g c room) (pageResponse f c room) (λ a. rw (page-text-same f g s c (a .facts))) (λ e. refl)
+      on-day (record { 0 = d }) (pageResponse g c room) (pageResponse f c room) (λ a. rw (page-text-same f g s (fallsOn c) (a .facts))) (λ e. refl)
   program-same (Command.Export d n c) room = rw (export-same c d n room, file-same f g s (showsUnder c) d n)
   program-same Command.Unknown room = rw (s .book)
 
@@ -62,14 +62,14 @@ module _ (f g : List ℕ) (s : SameBook f g) where
         note-lines = note-lines-same f g s;
         note-line = note-line-same f g s;
         falls = λ d c k. on-day d (fallsIn g c k) (fallsIn f c k) (λ a. rw (numbered-same f g s)) (λ e. refl);
-        next = λ d c k. on-day d (nextIn g c k) (nextIn f c k) (λ a. rw (numbered-same f g s)) (λ e. refl);
-        lines = λ d c. on-day d (pageCountIn g c) (pageCountIn f c) (λ a. rw (page-same f g s (fallsOn c (a .facts)))) (λ e. refl);
-        line = λ d c k. on-day d (pageLineIn g c k) (pageLineIn f c k) (λ a. rw (page-same f g s (fallsOn c (a .facts)))) (λ e. refl);
+        next = λ d shows k. on-day d (nextIn shows g k) (nextIn shows f k) (λ a. rw (numbered-same f g s)) (λ e. refl);
+        lines = λ d shows. on-day d (pageCountIn shows g) (pageCountIn shows f) (λ a. rw (page-same f g s (shows (a .facts)))) (λ e. refl);
+        line = λ d shows k. on-day d (pageLineIn shows g k) (pageLineIn shows f k) (λ a. rw (page-same f g s (shows (a .facts)))) (λ e. refl);
         line-text =
-            λ d c k. on-day d (λ v. lineText g (pageLineIn g c k v)) (λ v. lineText f (pageLineIn f c k v)) (λ a. line-text-same f g s c (a .facts) k _ refl) (λ e. refl);
-        print-length = λ d c. on-day d (pageLengthIn g c) (pageLengthIn f c) (λ a. rw (page-text-same f g s c (a .facts))) (λ e. refl);
-        print = λ d c room. on-day d (printIn g c room) (printIn f c room) (λ a. rw (page-text-same f g s c (a .facts))) (λ e. refl);
-        printed = λ d c out. on-day d (printLeaves g c out) (printLeaves f c out) (λ a. rw (page-text-same f g s c (a .facts))) (λ e. refl);
+            λ d shows k. on-day d (λ v. lineText g (pageLineIn shows g k v)) (λ v. lineText f (pageLineIn shows f k v)) (λ a. line-text-same f g s (shows (a .facts)) k _ refl) (λ e. refl);
+        print-length = λ d shows. on-day d (pageLengthIn shows g) (pageLengthIn shows f) (λ a. rw (page-text-same f g s shows (a .facts))) (λ e. refl);
+        print = λ d shows room. on-day d (printIn shows g room) (printIn shows f room) (λ a. rw (page-text-same f g s shows (a .facts))) (λ e. refl);
+        printed = λ d shows out. on-day d (printLeaves shows g out) (printLeaves shows f out) (λ a. rw (page-text-same f g s shows (a .facts))) (λ e. refl);
         export = export-same;
         exported = λ c first count out. rw (export-same c first count (length out), file-same f g s (showsUnder c) first count);
         program = program-same;

@@ -15,8 +15,7 @@ use Rattle.book.specs.Settings.{settingsOf}
 use Rattle.book.specs.SameBook.{SameBook}
 use Rattle.book.specs.Laws.SameBook.{same-entries}
 use Rattle.book.specs.declared.types.Entry.{Entry}
-use Rattle.falls.specs.declared.types.ShortMonth.{ShortMonth}
-use Rattle.pages.specs.Pages.{Numbered, numberedFrom, numbered, startOf, pageOf, fallsOn, pageOn, pageLineOf, nth}
+use Rattle.pages.specs.Pages.{Numbered, numberedFrom, numbered, startOf, pageOf, pageLineOf, nth}
 use Rattle.pages.specs.Laws.PageFacts.{page-passes}
 use Rattle.pages.specs.Answers.{validatedDay, validated, lineText}
 use Rattle.pages.specs.declared.types.LineAnswer.{LineAnswer}
@@ -74,13 +73,13 @@ module _ (f g : List ℕ) (s : SameBook f g) where
   unfolding validated
   validated-same d = ap (validatedDay d) (s .book)
 
-  pub line-text-same : (c : ShortMonth) (d : DayFacts) (k : ℕ) (none : LineAnswer) → lineText g none ≡ lineText f none
-      → lineText g (nth (pageOn c d g) k none (λ x. LineAnswer.Line (pageLineOf x))) ≡ lineText f (nth (pageOn c d f) k none (λ x. LineAnswer.Line (pageLineOf x)))
-  line-text-same c d k none e = rw (page-same (fallsOn c d)) (line-along f g (pageOn c d f) (page-texts (fallsOn c d)) k none e)
+  pub line-text-same : (p : Numbered → Bool) (k : ℕ) (none : LineAnswer) → lineText g none ≡ lineText f none
+      → lineText g (nth (pageOf p g) k none (λ x. LineAnswer.Line (pageLineOf x))) ≡ lineText f (nth (pageOf p f) k none (λ x. LineAnswer.Line (pageLineOf x)))
+  line-text-same p k none e = rw (page-same p) (line-along f g (pageOf p f) (page-texts p) k none e)
 
-  pub page-text-same : (c : ShortMonth) (d : DayFacts) → pageText g c d ≡ pageText f c d
+  pub page-text-same : (shows : DayFacts → Numbered → Bool) (d : DayFacts) → pageText shows g d ≡ pageText shows f d
   unfolding pageText printed
-  page-text-same c d = rw (page-same (fallsOn c d), lines-along f g (pageOn c d f) (page-texts (fallsOn c d)))
+  page-text-same shows d = rw (page-same (shows d), lines-along f g (pageOf (shows d) f) (page-texts (shows d)))
 
   appointments-same : (shows : ℕ → Numbered → Bool) (i d : ℕ) → appointmentsFor shows g i d ≡ appointmentsFor shows f i d
   unfolding appointmentsFor appointmentOf

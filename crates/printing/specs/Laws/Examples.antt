@@ -23,7 +23,7 @@ use Rattle.falls.specs.Falls.{datedFalls, falls}
 use Rattle.falls.specs.Times.{timesOf}
 use Rattle.falls.specs.declared.types.ShortMonth.{ShortMonth}
 use Rattle.pages.specs.Laws.SetP.{setP}
-use Rattle.pages.specs.Pages.{numberedFrom, numbered, pageOf, pageLineOf}
+use Rattle.pages.specs.Pages.{numberedFrom, numbered, pageOf, pageLineOf, fallsOn}
 use Rattle.printing.specs.Printed.{dateText, weekdayName, headLine, clock, pageLine, pageLines, printed, pageText}
 
 -- Monday, 15 March 1993
@@ -41,11 +41,11 @@ caseHead = 0x31 ∷ 0x39 ∷ 0x39 ∷ 0x33 ∷ 0x2D ∷ 0x30 ∷ 0x33 ∷ 0x2D �
 abbrev pub caseLine : List ℕ
 caseLine = 0x31 ∷ 0x30 ∷ 0x3A ∷ 0x30 ∷ 0x30 ∷ 0x2D ∷ 0x31 ∷ 0x31 ∷ 0x3A ∷ 0x30 ∷ 0x30 ∷ 0x20 ∷ 0x44 ∷ 0x65 ∷ 0x70 ∷ 0x0A ∷ []
 
-case-monday : pageText case ShortMonth.Skip monday ≡ caseHead ++ caseLine
+case-monday : pageText (fallsOn ShortMonth.Skip) case monday ≡ caseHead ++ caseLine
 unfolding monday pageText printed headLine dateText weekdayName clock pageLine pageLines two four decimal decimalF pageOf numbered numberedFrom pageLineOf falls datedFalls timesOf entriesOf entryAt placesOf placesIn walkOf walkFrom walkF stepAt judgeHead bodyStep judgeBody lengthsOk lengthsFit fieldsOk textsOk recordOf datedOf fixedOf datedOk timesOk real monthLength leap noZero noteOk linesOf shortLines keep sort insert ifLt ifEq ifB
 case-monday = refl
 
-pub case-page : pageText case ShortMonth.Skip (factsOf 4822) ≡ caseHead ++ caseLine
+pub case-page : pageText (fallsOn ShortMonth.Skip) case (factsOf 4822) ≡ caseHead ++ caseLine
 case-page = rw case-day case-monday
 
 -- "an empty text leaves the space before it": 00:00-23:59 and a space

@@ -2,6 +2,7 @@
 -- Assumes nothing.
 use Prim.Native.Nat.{ℕ, _+_, _%_, _<_, _≤_}
 use mathlib.Core.Path.{_≡_, refl, sym, _∙_, ap}
+use mathlib.Core.Bool.{Bool}
 use mathlib.Core.List.{List, [], _∷_, _++_, map}
 use native.Mathlib.Omega.{arith}
 use native.Mathlib.Numerals.{add-one}
@@ -14,8 +15,7 @@ use Rattle.digits.specs.Digits.{two, four, decimal}
 use Rattle.days.specs.declared.types.Date.{Date}
 use Rattle.days.specs.declared.types.DayFacts.{DayFacts}
 use Rattle.book.specs.Books.{entryAt}
-use Rattle.falls.specs.declared.types.ShortMonth.{ShortMonth}
-use Rattle.pages.specs.Pages.{Numbered, fallsOn, pageOn, pageLineOf}
+use Rattle.pages.specs.Pages.{Numbered, pageOf, pageLineOf}
 use Rattle.pages.specs.Codes.{code, decode}
 use Rattle.pages.specs.Invariants.{ReadyBook}
 use Rattle.pages.specs.Laws.Decoding.{page-decoded}
@@ -102,10 +102,10 @@ length-coded f d codes =
 
 -- a page by its codes, as ordering leaves them
 pub page-of-codes :
-    (f : List ℕ) (c : ShortMonth) (a : Ready) (r : ℕ) (codes : List ℕ)
-    → ReadyBook f a → take r codes ≡ map code (pageOn c (a .facts) f) → pageText f c (a .facts) ≡ codedText f (a .facts) (take r codes)
+    (shows : DayFacts → Numbered → Bool) (f : List ℕ) (a : Ready) (r : ℕ) (codes : List ℕ)
+    → ReadyBook f a → take r codes ≡ map code (pageOf (shows (a .facts)) f) → pageText shows f (a .facts) ≡ codedText f (a .facts) (take r codes)
 unfolding pageText printed codedText
-page-of-codes f c a r codes b e =
-    let page = pageOn c (a .facts) f in
+page-of-codes shows f a r codes b e =
+    let page = pageOf (shows (a .facts)) f in
     let n : length (map pageLineOf page) ≡ length (take r codes) = length-map page pageLineOf ∙ sym (length-map page code) ∙ ap length (sym e) in
-    rw (n, e, page-decoded f (b .long) (b .size) (fallsOn c (a .facts)))
+    rw (n, e, page-decoded f (b .long) (b .size) (shows (a .facts)))

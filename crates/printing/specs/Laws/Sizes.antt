@@ -14,6 +14,7 @@ use Rattle.sorting.specs.Totals.{total}
 use Rattle.sorting.specs.Laws.Totals.{total-nil, total-cons, total-sort}
 use Rattle.digits.specs.Digits.{decimal}
 use Rattle.digits.specs.Laws.Decimal.{length-below}
+use Rattle.days.specs.declared.types.DayFacts.{DayFacts}
 use Rattle.texts.specs.Notes.{mostText}
 use Rattle.records.specs.Fields.{fixedOf, textLength, noteLength}
 use Rattle.records.specs.Laws.Judged.{Judged, body-judged, fixed-range}
@@ -22,8 +23,7 @@ use Rattle.book.specs.Books.{placesOf, entryAt}
 use Rattle.book.specs.Invariants.{RecordAt}
 use Rattle.book.specs.Laws.Books.{Cursor, cursor-first, Ahead, cursor-ahead}
 use Rattle.book.specs.Settings.{firstRecord}
-use Rattle.falls.specs.declared.types.ShortMonth.{ShortMonth}
-use Rattle.pages.specs.Pages.{Numbered, numbered, startOf, pageOf, fallsOn, pageOn, pageLineOf}
+use Rattle.pages.specs.Pages.{Numbered, numbered, startOf, pageOf, pageLineOf}
 use Rattle.pages.specs.Invariants.{ReadyBook, recordAt}
 use Rattle.pages.specs.Laws.Pages.{numberedAt, numbered-first, Turn, record-turn, turn-yes, turn-no, turn-end, length-page}
 use Rattle.pages.specs.declared.types.Ready.{Ready}
@@ -36,12 +36,12 @@ unfolding pageOf
 page-bytes p f = length-lines f (sort startOf (keep p (numbered f))) ∙ total-sort (lineSize f) startOf (keep p (numbered f))
 
 pub page-size :
-    (f : List ℕ) (c : ShortMonth) (a : Ready)
-    → length (pageText f c (a .facts)) ≡ 16 + length (decimal (length (pageOn c (a .facts) f))) + length (pageLines f (map pageLineOf (pageOn c (a .facts) f)))
+    (shows : DayFacts → Numbered → Bool) (f : List ℕ) (d : DayFacts)
+    → length (pageText shows f d) ≡ 16 + length (decimal (length (pageOf (shows d) f))) + length (pageLines f (map pageLineOf (pageOf (shows d) f)))
 unfolding pageText printed
-page-size f c a =
-    length-append (headLine (a .facts) (length (map pageLineOf (pageOn c (a .facts) f)))) (pageLines f (map pageLineOf (pageOn c (a .facts) f)))
-    ∙ rw (length-map (pageOn c (a .facts) f) pageLineOf, length-head (a .facts) (length (pageOn c (a .facts) f)))
+page-size shows f d =
+    length-append (headLine d (length (map pageLineOf (pageOf (shows d) f)))) (pageLines f (map pageLineOf (pageOf (shows d) f)))
+    ∙ rw (length-map (pageOf (shows d) f) pageLineOf, length-head d (length (pageOf (shows d) f)))
 
 -- a record's bytes in its book, and on a page
 record Smaller (f : List ℕ) (n at : ℕ) : Type 0 where
@@ -90,11 +90,11 @@ module _ (f : List ℕ) (p : Numbered → Bool) where
       rw (numbered-first f) (b .less, b .most)
 
 -- "12" never happens with 65,535 bytes of room
-pub page-most : (f : List ℕ) (c : ShortMonth) (a : Ready) → ReadyBook f a → length (pageText f c (a .facts)) ≤ 65535
-page-most f c a r =
-    let p = fallsOn c (a .facts) in
+pub page-most : (shows : DayFacts → Numbered → Bool) (f : List ℕ) (a : Ready) → ReadyBook f a → length (pageText shows f (a .facts)) ≤ 65535
+page-most shows f a r =
+    let p : Numbered → Bool = shows (a .facts) in
     let b = book-most f p (r .long) in
     let l = length-page p f in
     let s = page-bytes p f in
-    let d = length-below 4 (length (pageOn c (a .facts) f)) (omega arith) in
-    rw (page-size f c a) (omega arith)
+    let d = length-below 4 (length (pageOf p f)) (omega arith) in
+    rw (page-size shows f (a .facts)) (omega arith)

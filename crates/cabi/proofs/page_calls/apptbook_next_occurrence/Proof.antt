@@ -1,5 +1,7 @@
 -- `apptbook_next_occurrence` meets its contract: what the layer below gives, as it crosses.
 -- Assumes nothing.
+use mathlib.Core.Path.{ap, _∙_}
+use Rattle.marshal.specs.PageAnswers.{nextOut}
 use borrow.Author.Needs.{needs}
 use Rattle.cabi.proofs.page_calls.apptbook_next_occurrence.Statement.{statement}
 use Rattle.cabi.proofs.page_calls.apptbook_next_occurrence.Tie as tie
@@ -14,7 +16,10 @@ next-out-requires : tie.Need-next-out-requires
 next-out-requires c κs = search needs
 
 returns : tie.Need-returns
-returns c = cc
+returns c =
+    let e = c .before in
+    let h = e .before .choice-of .ensures in
+    rw (← h) (c .next-out .ensures ∙ ap nextOut (e .next-occurrence .ensures))
 
 pub apptbook-next-occurrence-spec : {M : Type 1} → statement M
 apptbook-next-occurrence-spec =

@@ -1,5 +1,7 @@
 -- `apptbook_print_page` meets its contract: what the layer below gives and leaves, as it crosses.
 -- Assumes nothing.
+use mathlib.Core.Path.{ap, _∙_}
+use Rattle.marshal.specs.PageAnswers.{countOut}
 use borrow.Author.Needs.{needs}
 use Rattle.cabi.proofs.page_calls.apptbook_print_page.Statement.{statement}
 use Rattle.cabi.proofs.page_calls.apptbook_print_page.Tie as tie
@@ -17,7 +19,10 @@ same-length : tie.Need-same-length
 same-length c = search needs
 
 returns : tie.Need-returns
-returns c = (cc, cc)
+returns c =
+    let e = c .before .before .before in
+    let h = e .before .before .choice-of .ensures in
+    (rw (← h) (c .count-out .ensures ∙ ap countOut (e .print-page .ensures .0)), rw (← h) (e .print-page .ensures .1))
 
 pub apptbook-print-page-spec : {M : Type 1} → statement M
 apptbook-print-page-spec =

@@ -10,13 +10,14 @@ use Rattle.printing.specs.Laws.Printed.{page-of-codes}
 use Rattle.printing.specs.Laws.Sizes.{page-most}
 use Rattle.printing.specs.Answers.{printIn, printLeaves}
 use borrow.Author.Needs.{needs}
+use Rattle.pages.specs.Pages.{fallsOn}
 use Rattle.printing.proofs.calls.print_with.Statement.{statement}
 use Rattle.printing.proofs.calls.print_with.Tie as tie
 
-page : (c : tie.After-page-codes) → let s = c .before .before .before .before .before .before .before in let a = s .args in pageText (a .file .now) (a .c) (a .a .facts) ≡ codedText (a .file .now) (a .a .facts) (take (c .page-codes .result) (c .page-codes .last .1 .1 .1 .0))
+page : (c : tie.After-page-codes) → let s = c .before .before .before .before .before .before .before in let a = s .args in pageText (fallsOn (a .c)) (a .file .now) (a .a .facts) ≡ codedText (a .file .now) (a .a .facts) (take (c .page-codes .result) (c .page-codes .last .1 .1 .1 .0))
 page c =
     let s = c .before .before .before .before .before .before .before in
-    page-of-codes (s .args .file .now) (s .args .c) (s .args .a) (c .page-codes .result) (c .page-codes .last .1 .1 .1 .0) (s .pre .0) (c .page-codes .ensures .1)
+    page-of-codes (fallsOn (s .args .c)) (s .args .file .now) (s .args .a) (c .page-codes .result) (c .page-codes .last .1 .1 .1 .0) (s .pre .0) (c .page-codes .ensures .1)
 
 page-codes-requires : tie.Need-page-codes-requires
 page-codes-requires c κs = search needs
@@ -31,7 +32,7 @@ print-codes-requires : tie.Need-print-codes-requires
 print-codes-requires c κs =
     let k = c .before .before .before .before .before .before .before in
     let s = k .before .before .before .before .before .before .before in
-    rw (page k) at (page-most (s .args .file .now) (s .args .c) (s .args .a) (s .pre .0))
+    rw (page k) at (page-most (fallsOn (s .args .c)) (s .args .file .now) (s .args .a) (s .pre .0))
 
 same-length : tie.Need-same-length
 same-length c = search needs
