@@ -59,3 +59,12 @@ case-left = refl
 pub spans : (spanOk 0 0 ≡ true) × (spanOk 0 366 ≡ true) × (spanOk 0 367 ≡ false) × (spanOk 43829 1 ≡ true) × (spanOk 43829 2 ≡ false) × (spanOk 43830 0 ≡ false)
 unfolding spanOk ifLt
 spans = (refl, refl, refl, refl, refl, refl)
+
+-- "granularity 15, 30 or 60 as its code and minutes and anything else as 30"
+pub intervals : (intervalOf 15 ≡ 15) × (intervalOf 30 ≡ 30) × (intervalOf 60 ≡ 60) × (intervalOf 20 ≡ 30)
+unfolding intervalOf ifEq
+intervals = (refl, refl, refl, refl)
+
+pub codes : (codeOf 15 ≡ 0) × (codeOf 30 ≡ 1) × (codeOf 60 ≡ 2) × (codeOf 20 ≡ 1)
+unfolding codeOf ifEq
+codes = (refl, refl, refl, refl)
