@@ -19,11 +19,12 @@ mostGranularity = 720
 abbrev pub firstRecord : ℕ
 firstRecord = 12
 
--- "Identification, 5 bytes: FF FF 01 00 01." A missing byte counts as 0, so the fifth is missing from a file of fewer than five.
+-- "Identification, 5 bytes: FF FF 01 00 01."
 unfoldable pub bookMark : ℕ → ℕ → ℕ → ℕ → ℕ → Bool
 bookMark a b c d e =
     ifEq a 0xFF (ifEq b 0xFF (ifEq c 0x01 (ifEq d 0x00 (ifEq e 0x01 true false) false) false) false) false
 
+-- A missing byte counts as 0, and the fifth is 01: a file of fewer than five bytes is no book.
 unfoldable pub bookIdentified : List ℕ → Bool
 bookIdentified f = bookMark (byte f 0) (byte f 1) (byte f 2) (byte f 3) (byte f 4)
 

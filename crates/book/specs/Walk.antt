@@ -32,10 +32,11 @@ judgeHead size at t l =
     (ifEq t 50 (ifEq l 0 0 unknownType)
     (ifLt t 1 unknownType (ifLt 6 t unknownType (ifLt size (at + 3 + l) cutShort 0))))
 
--- "Type 50 with L = 0 ends the book"; any other record goes on where its L bytes end
+-- a body's judgement, n, at a place: the book goes on, or stops there
 unfoldable pub bodyStep : ℕ → ℕ → ℕ → StepAnswer
 bodyStep n at next = ifEq n 0 (StepAnswer.Record next) (StepAnswer.Stopped (refusalAt n at))
 
+-- "Type 50 with L = 0 ends the book"; any other record goes on where its L bytes end
 unfoldable pub stepAt : List ℕ → ℕ → StepAnswer
 stepAt f at =
     ifEq (judgeHead (length f) at (typeAt f at) (bodyLengthAt f at)) 0

@@ -31,7 +31,8 @@ pub record FirstDay (p : ℕ → Bool) (asked found : ℕ) : Type 0 where
   pub passes : p found ≡ true
   pub none : (d : ℕ) → asked ≤ d → d < found → p d ≡ false
 
+-- a search finds a day or none, and refuses nothing
 abbrev pub Told : (ℕ → Bool) → ℕ → NextAnswer → Type 0
 Told p asked (NextAnswer.Found o) = FirstDay p asked (o .day .0) × (o .looked ≡ o .day .0 - asked + 1)
 Told p asked (NextAnswer.NoneLeft n) = ((d : ℕ) → asked ≤ d → d ≤ lastDay → p d ≡ false) × (n ≡ lastDay + 1 - asked)
-Told p asked (NextAnswer.Refused e) = Unit {0}
+Told p asked (NextAnswer.Refused e) = ⊥

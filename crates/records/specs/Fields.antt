@@ -69,10 +69,11 @@ monthlyByPositionOf p = record { week = byte p 1; weekday = byte p 2; repeat = r
 unfoldable pub yearlyOf : List ℕ → Yearly
 yearlyOf p = record { month = byte p 1; day = byte p 2; repeat = repeatOf p 3 }
 
--- type 6: "s, priority 1..9, start date, check-off date"
+-- a to-do's bit 1 is "checked off", and the check-off date is there only with it
 unfoldable pub checkOffOf : List ℕ → CheckOff
 checkOffOf p = ifB (bit1 p) (CheckOff.On (dateAt p 5)) CheckOff.NotCheckedOff
 
+-- type 6: "s, priority 1..9, start date, check-off date"
 unfoldable pub toDoOf : List ℕ → ToDo
 toDoOf p = record { «carry_forward» = bit0 p; priority = byte p 1; start = dateAt p 2; «check_off» = checkOffOf p }
 

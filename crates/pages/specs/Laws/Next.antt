@@ -63,4 +63,4 @@ told-from p asked (suc k) d l e h =
 -- the search tells the truth: the first day that passes, or that none does
 pub next-told : (p : ℕ → Bool) (asked : ℕ) → asked ≤ lastDay → Told p asked (nextOf p asked)
 unfolding nextOf
-next-told p asked h = told-from p asked (lastDay + 1 - asked) asked (omega arith) (omega arith) (λ b m n. absurd (let z : _≡_ {A = ℕ} 0 1 = omega arith in omega arith))
+next-told p asked h = told-from p asked (lastDay + 1 - asked) asked (omega arith) (omega arith) (λ b m n. absurd (omega arith))
