@@ -2,6 +2,7 @@
 ghost use mathlib.Core.Path.{_≡_};
 ghost use Prim.Native.Nat.{_+_, _≤_};
 ghost use lib.ListN.{length};
+ghost use Rattle.days.specs.Days.{lastDay};
 ghost use Rattle.calendar_writer.specs.Sums.{rows, noneYet};
 ghost use Rattle.calendar_writer.specs.Scatter.{FilledBlocks};
 use crate::puts::put_blank;
@@ -14,7 +15,7 @@ pub fn put_blanks(
     sums: &[u64],
     places: &mut [usize],
 ) -> usize
-    requires { ⌜ first + length (now sums) ≤ 43830 ⌝ }
+    requires { ⌜ first + length (now sums) ≤ lastDay + 1 ⌝ }
     requires { ⌜ length (now places) ≡ length (now sums) ⌝ }
     requires { ⌜ at + length (rows noneYet first 0 (now sums)) ≤ length (now out) ⌝ }
     ensures next { λ r. ⌜ r ≡ at + length (rows noneYet first 0 (now (sums .entry))) ⌝ }

@@ -4,6 +4,7 @@ ghost use mathlib.Core.List.{[]};
 ghost use Prim.Native.Nat.{_+_, _≤_};
 ghost use lib.ListN.{length};
 ghost use Rattle.prelude.specs.Splice.{splice};
+ghost use Rattle.days.specs.Days.{lastDay};
 ghost use Rattle.texts.specs.Notes.{mostText};
 ghost use Rattle.calendar.specs.File.{zeros, headBytes, appointmentBytes};
 ghost use Rattle.calendar_writer.specs.Sums.{descriptorOf, sumTable, rowOf};
@@ -52,7 +53,7 @@ fn put_descriptor(out: &mut [u8], at: usize, day: usize, alarms: usize, unit: us
 
 // A descriptor for each day with appointments, from the sums; the first block stands at that unit.
 pub fn put_table(out: &mut [u8], at: usize, first: usize, sums: &[u64], unit: usize) -> usize
-    requires { ⌜ first + length (now sums) ≤ 43830 ⌝ }
+    requires { ⌜ first + length (now sums) ≤ lastDay + 1 ⌝ }
     requires { ⌜ unit ≤ 1000 ⌝ }
     requires { ⌜ at + length (sumTable first unit (now sums)) ≤ length (now out) ⌝ }
     ensures next { λ r. ⌜ r ≡ at + length (sumTable first unit (now (sums .entry))) ⌝ }

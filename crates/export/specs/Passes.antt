@@ -37,7 +37,7 @@ pub record CountedBook (f : List ℕ) (records : ℕ) : Type 0 where
 
 -- a record at a place of an accepted book
 pub record Sound (f : List ℕ) (at : ℕ) : Type 0 where
-  pub place : at ≤ 65535
+  pub place : at ≤ mostBookBytes
   pub fine : recordOk (entryAt f at .«record») ≡ true
   pub text : entryAt f at .text .place + entryAt f at .text .length ≤ length f
   pub short : entryAt f at .text .length ≤ mostText

@@ -19,5 +19,6 @@ pub record ReadyBook (f : List ℕ) (a : Ready) : Type 0 where
   pub day : a .facts .day .0 ≤ lastDay
   pub facts : a .facts ≡ factsOf (a .facts .day .0)
 
+-- the record at a place, with its number
 abbrev pub recordAt : List ℕ → ℕ → ℕ → Numbered
 recordAt f n at = record { number = n; entry = entryAt f at }

@@ -40,7 +40,7 @@ pub record Collecting (f : List ℕ) (c : ShortMonth) (days : List ℕ) (n at co
   pub codes-so : map code (keep (keptIn c days) (numbered f)) ≡ take count codes ++ map code (keep (keptIn c days) (numberedAt f n))
   pub sums-so : (k : ℕ) → k < length days → total weighs (keep (marked c days k) (numbered f)) ≡ getD sums k 0 + total weighs (keep (marked c days k) (numberedAt f n))
 
-pub collect-start : (f : List ℕ) (c : ShortMonth) (days codes sums : List ℕ) → firstRecord ≤ length f → length sums ≡ length days → AtMost 0 sums → Collecting f c days 0 12 0 codes sums
+pub collect-start : (f : List ℕ) (c : ShortMonth) (days codes sums : List ℕ) → firstRecord ≤ length f → length sums ≡ length days → AtMost 0 sums → Collecting f c days 0 firstRecord 0 codes sums
 collect-start f c days codes sums h l b =
     record {
       cursor = cursor-first f h;

@@ -86,7 +86,7 @@ module _ (f : List ℕ) (p : Numbered → Bool) where
   -- all records of a book that pass
   pub book-most : firstRecord ≤ length f → (total (lineSize f) (keep p (numbered f)) + length (keep p (numbered f)) + firstRecord ≤ length f) × (total (lineSize f) (keep p (numbered f)) ≤ 40 * length (keep p (numbered f)))
   book-most h =
-      let b : Bounded f 12 (keep p (numberedAt f 0)) = bounded (length (placesOf f)) 0 12 (cursor-first f h) (omega arith) in
+      let b : Bounded f firstRecord (keep p (numberedAt f 0)) = bounded (length (placesOf f)) 0 firstRecord (cursor-first f h) (omega arith) in
       rw (numbered-first f) (b .less, b .most)
 
 -- "12" never happens with 65,535 bytes of room
