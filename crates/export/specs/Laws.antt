@@ -3,6 +3,7 @@ pub mod Answers
 pub mod Appointments
 pub mod Examples
 pub mod Records
+pub mod Sizes
 pub mod Theorem
 pub mod Books
 pub mod Collecting

@@ -10,6 +10,7 @@ use Rattle.prelude.specs.Refusals.{noRoom, refusal}
 use Rattle.prelude.specs.Splice.{splice}
 use Rattle.sorting.specs.Keep.{keep}
 use Rattle.sorting.specs.Order.{insert, sort}
+use Rattle.sorting.specs.Totals.{total}
 use Rattle.days.specs.Dates.{leap, monthLength, real}
 use Rattle.days.specs.Days.{dateOf, nextDate, weekdayOf, nextWeekday}
 use Rattle.days.specs.Facts.{factsOf}
@@ -29,6 +30,7 @@ use Rattle.pages.specs.Pages.{Numbered, numberedFrom, numbered, pageOf}
 use Rattle.calendar.specs.File.{zeros, filled, appointmentBytes, appointmentsBytes, blockBytes, blocks, alarms, descriptorBytes, table, headBytes, fileOf}
 use Rattle.calendar_writer.specs.DayLists.{addDay, daysWith, pastLastBlockFrom, pastLastBlock}
 use Rattle.export.specs.Export.{codeOf, intervalOf, settingsFor, specialTime, appointmentOf, appointmentsFor, exportDays, exportFile, sized, spanAnswer, spanOk, exportFrom, exportAnswer, leavesFile, exportLeaves, showsUnder}
+use Rattle.export.specs.Demand.{dayList, busyDays, fileSize}
 use Rattle.export.specs.declared.answers.ExportAnswer.{ExportAnswer}
 use Rattle.calendar.specs.Laws.Examples as calendar
 
@@ -44,6 +46,11 @@ case-file = refl
 pub empty-files : (exportFile shows case 4823 7 ≡ calendar.emptyCase) × (exportFile shows case 4822 0 ≡ calendar.emptyCase)
 unfolding exportFile exportDays daysWith addDay appointmentsFor appointmentOf specialTime settingsFor intervalOf codeOf bit settingsOf pageOf sort insert keep numbered numberedFrom entriesOf entryAt placesOf placesIn walkOf walkFrom walkF stepAt judgeHead bodyStep judgeBody lengthsOk lengthsFit fieldsOk textsOk datedOf recordOf fixedOf datedOk timesOk real monthLength leap noZero noteOk linesOf shortLines timesOf falls datedFalls factsOf dateOf nextDate weekdayOf nextWeekday fileOf headBytes table descriptorBytes alarms filled blocks blockBytes appointmentsBytes appointmentBytes le16 ifLt ifEq ifB
 empty-files = (refl, refl)
+
+-- both lengths as demand 3 states them, from the pages
+pub case-sizes : (fileSize (dayList shows case) 4820 7 ≡ 192) × (fileSize (dayList shows case) 4823 7 ≡ 64) × (fileSize (dayList shows case) 4822 0 ≡ 64)
+unfolding total busyDays pageOf sort insert keep numbered numberedFrom entriesOf entryAt placesOf placesIn walkOf walkFrom walkF stepAt judgeHead bodyStep judgeBody lengthsOk lengthsFit fieldsOk textsOk datedOf recordOf fixedOf datedOk timesOk real monthLength leap noZero noteOk linesOf shortLines timesOf falls datedFalls factsOf dateOf nextDate weekdayOf nextWeekday ifLt ifEq ifB
+case-sizes = (refl, refl, refl)
 
 -- a room of 192 bytes is just enough; the program's
 pub case-answers : (exportAnswer shows case 4820 7 192 ≡ ExportAnswer.Written 192) × (exportAnswer shows case 4820 7 191 ≡ ExportAnswer.Refused (refusal noRoom)) × (exportAnswer shows case 4820 7 65536 ≡ ExportAnswer.Written 192)

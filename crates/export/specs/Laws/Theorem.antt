@@ -2,7 +2,7 @@
 -- Assumes nothing.
 use Prim.Native.Nat.{ℕ, _+_, _<_, _≤_}
 use mathlib.Core.Path.{_≡_, refl, sym, ap, _∙_}
-use mathlib.Core.Bool.{Bool, false}
+use mathlib.Core.Bool.{Bool, true, false}
 use mathlib.Core.List.{List, [], _∷_, map}
 use native.Mathlib.Omega.{arith}
 use lib.ListN.{length, take}
@@ -22,10 +22,11 @@ use Rattle.calendar_writer.specs.Laws.TableRead.{GoodDays}
 use Rattle.calendar_writer.specs.Laws.FileRead.{file-counted, file-accepted, file-shows}
 use Rattle.calendar_writer.specs.Laws.Spans.{days-few, days-on, days-other, days-good}
 use Rattle.export.specs.Export.{intervalOf, settingsFor, appointmentOf, appointmentsFor, exportDays, exportFile, exportAnswer, exportLeaves, showsUnder}
-use Rattle.export.specs.Demand.{listed, shown, SameDays, Demand3}
+use Rattle.export.specs.Demand.{listed, dayList, shown, fileSize, StartsLate, SameDays, Sizes, Demand3}
 use Rattle.export.specs.Laws.Records.{good-book}
 use Rattle.export.specs.Laws.Appointments.{flag-alarm, good-size}
-use Rattle.export.specs.Laws.Answers.{Span, span-past, span-short, span-fits, answer-span, Success, export-success, left-file}
+use Rattle.export.specs.Laws.Sizes.{days-size, days-late, days-near}
+use Rattle.export.specs.Laws.Answers.{Span, facts-span, span-past, span-short, span-fits, answer-span, Success, export-success, left-file}
 use Rattle.export.specs.declared.answers.ExportAnswer.{ExportAnswer}
 
 module _ (shows : ℕ → Numbered → Bool) (f : List ℕ) (first count : ℕ) where
@@ -41,7 +42,7 @@ module _ (shows : ℕ → Numbered → Bool) (f : List ℕ) (first count : ℕ) 
   all-said interval [] = refl
   all-said interval (x ∷ xs) = rw (said interval x, all-said interval xs)
 
-  page-said : (d : ℕ) → map shown (list d) ≡ map (listed f) (pageOf (shows d) f)
+  page-said : (d : ℕ) → map shown (list d) ≡ dayList shows f d
   unfolding appointmentsFor
   page-said d = all-said _ (pageOf (shows d) f)
 
@@ -60,14 +61,33 @@ module _ (shows : ℕ → Numbered → Bool) (f : List ℕ) (first count : ℕ) 
         after = λ d l. file-shows s ds few good d ∙ days-other list count first d (λ m h. omega arith);
       }
 
+  -- the sizes of the days' lists are the export's
+  export-size : length (exportFile shows f first count) ≡ fileSize (dayList shows f) first count
+  unfolding exportFile exportDays
+  export-size = days-size list (dayList shows f) page-said first count (settingsFor (settingsOf f))
+
+  export-late : {k : ℕ} → StartsLate (dayList shows f) first count k → pastLastBlock (exportDays shows f first count) ≡ true
+  unfolding exportDays
+  export-late s = days-late list (dayList shows f) page-said first count s
+
+  export-near : ((k : ℕ) → StartsLate (dayList shows f) first count k → ⊥) → pastLastBlock (exportDays shows f first count) ≡ false
+  unfolding exportDays
+  export-near none = days-near list (dayList shows f) page-said first count none
+
+  span-sizes : (room : ℕ) {b : Book} → bookOf f ≡ BookAnswer.Accepted b → Span first count → Sizes (dayList shows f) first count room (exportAnswer shows f first count room)
+  span-sizes room e span =
+      let q = answer-span shows f first count room e (facts-span span) in
+      record {
+        thirteen = λ k s. q ∙ span-past shows f first count room (export-late s);
+        twelve = λ none l. q ∙ span-short shows f first count (export-near none) (omega (arith, export-size));
+        written = λ none l. q ∙ span-fits shows f first count (export-near none) (omega (arith, export-size)) ∙ ap ExportAnswer.Written export-size;
+      }
+
   -- The theorem: for any bytes as a book, any first day and count, any buffer.
   pub demand3 : (out : List ℕ) → Demand3 shows f first count out (exportAnswer shows f first count (length out)) (exportLeaves shows f first count out)
   demand3 out =
       record {
-        sizes =
-            λ b e span.
-            let q = answer-span shows f first count (length out) e span in
-            record { thirteen = λ h. q ∙ span-past shows f first count _ h; twelve = λ h l. q ∙ span-short shows f first count h l; written = λ h l. q ∙ span-fits shows f first count h l };
+        sizes = λ b e day most end. span-sizes (length out) e (record { day = day; most = most; end = end });
         same =
             λ n h.
             let s : Success shows f first count (length out) n = export-success shows f first count (length out) n h in
