@@ -1,4 +1,5 @@
 -- What the passes over a book know of a record: on which days of a span it shows, its weight, and a day's appointments so far.
+-- A marking is any test `mark k x`: the record x shows on the k-th day of the span.
 -- Assumes nothing.
 use Prim.Native.Nat.{ℕ, zero, suc, _+_, _*_, _<_, _≤_}
 use mathlib.Core.Path.{_≡_}
@@ -42,23 +43,23 @@ pub record Sound (f : List ℕ) (at : ℕ) : Type 0 where
   pub text : entryAt f at .text .place + entryAt f at .text .length ≤ length f
   pub short : entryAt f at .text .length ≤ mostText
 
--- a record shows on the k-th day of a span, whose days are given as codes
+-- the marking by rules: a record's rule shows on the k-th day of a span, whose days are given as codes
 abbrev pub marked : ShortMonth → List ℕ → ℕ → Numbered → Bool
 marked c days k x = ruleShows c (ruleOf (x .entry .«record»)) (getD days k 0)
 
--- it shows on some day of the span
-abbrev pub keptIn : ShortMonth → List ℕ → Numbered → Bool
-keptIn c days x = someDay (λ k. marked c days k x) (length days)
+-- a record is marked on one of the first n days
+abbrev pub keptIn : (ℕ → Numbered → Bool) → ℕ → Numbered → Bool
+keptIn mark n x = someDay (λ k. mark k x) n
 
 -- one appointment, its alarm, its bytes, as a sum
 abbrev pub weighs : Numbered → ℕ
 weighs x = 4294967296 + bit (recordTimes x .alarm) * 65536 + (5 + x .entry .text .length)
 
--- the sums of a span's days
-pub record Weighed (f : List ℕ) (c : ShortMonth) (days sums : List ℕ) : Type 0 where
+-- the sums of a span's days: of each the records that are marked on it
+pub record Weighed (f : List ℕ) (mark : ℕ → Numbered → Bool) (days sums : List ℕ) : Type 0 where
   pub long : length sums ≡ length days
-  pub each : (k : ℕ) → k < length days → getD sums k 0 ≡ total weighs (keep (marked c days k) (numbered f))
+  pub each : (k : ℕ) → k < length days → getD sums k 0 ≡ total weighs (keep (mark k) (numbered f))
 
 -- the appointments of the k-th day among the first n codes
-unfoldable pub soFar : List ℕ → ℕ → ShortMonth → List ℕ → List ℕ → ℕ → ℕ → List Appointment
-soFar f interval c days codes n k = map (appointmentOf f interval) (keep (marked c days k) (map (decode f) (take n codes)))
+unfoldable pub soFar : List ℕ → ℕ → (ℕ → Numbered → Bool) → List ℕ → ℕ → ℕ → List Appointment
+soFar f interval mark codes n k = map (appointmentOf f interval) (keep (mark k) (map (decode f) (take n codes)))

@@ -14,7 +14,7 @@ ghost use Rattle.texts.specs.Notes.{mostText};
 ghost use Rattle.occurrences.specs.Rules.{ruleOf, ruleShows};
 ghost use Rattle.occurrences.specs.Next.{Next};
 ghost use Rattle.calendar_writer.specs.Scatter.{Added};
-ghost use Rattle.export.specs.Passes.{AtMost, CountedBook, Sound, keptIn, weighs, Weighed};
+ghost use Rattle.export.specs.Passes.{AtMost, CountedBook, Sound, marked, keptIn, weighs, Weighed};
 use book::entries::next_place;
 use book::settings::FIRST_RECORD;
 use falls::types::ShortMonth;
@@ -116,8 +116,8 @@ pub fn collect(
     requires { ⌜ AtMost 0 (now sums) ⌝ }
     ensures { λ r. ⌜ r ≤ length (now (codes .entry)) ⌝ }
     ensures { λ r.
-        ⌜ take r (now (codes .exit)) ≡ map code (keep (keptIn c (now (days .entry))) (numbered (now (file .entry)))) ⌝ }
-    ensures { λ _. ⌜ Weighed (now (file .entry)) c (now (days .entry)) (now (sums .exit)) ⌝ }
+        ⌜ take r (now (codes .exit)) ≡ map code (keep (keptIn (marked c (now (days .entry))) (length (now (days .entry)))) (numbered (now (file .entry)))) ⌝ }
+    ensures { λ _. ⌜ Weighed (now (file .entry)) (marked c (now (days .entry))) (now (days .entry)) (now (sums .exit)) ⌝ }
 {
     let mut at: usize = FIRST_RECORD;
     let mut n: usize = 0;

@@ -6,7 +6,7 @@ ghost use Rattle.prelude.specs.Bytes.{bit};
 ghost use Rattle.prelude.specs.Splice.{splice};
 ghost use Rattle.pages.specs.Codes.{decode};
 ghost use Rattle.calendar.specs.File.{appointmentBytes};
-ghost use Rattle.export.specs.Export.{specialTime, appointmentOf};
+ghost use Rattle.export.specs.Export.{specialTime, appointmentOf, showsUnder};
 ghost use Rattle.day_steps.specs.Codes.{Spanned};
 ghost use Rattle.calendar_writer.specs.Sums.{rows};
 ghost use Rattle.calendar_writer.specs.Scatter.{Added, Roomy, scatter};
@@ -78,13 +78,13 @@ pub fn put_days(
     at: usize,
 ) -> usize
     requires { ⌜ 0 < interval ⌝ }
-    requires { ⌜ ReadyToFill (now file) c first (now days) (now sums) (now codes) ⌝ }
+    requires { ⌜ ReadyToFill (now file) (showsUnder c) first (marked c (now days)) (now days) (now sums) (now codes) ⌝ }
     requires { ⌜ length (now places) ≡ length (now days) ⌝ }
-    requires { ⌜ at + length (rows (soFar (now file) interval c (now days) (now codes) (length (now codes))) first 0 (now sums)) ≤ length (now out) ⌝ }
+    requires { ⌜ at + length (rows (soFar (now file) interval (marked c (now days)) (now codes) (length (now codes))) first 0 (now sums)) ≤ length (now out) ⌝ }
     ensures next { λ r.
-        ⌜ r ≡ at + length (rows (soFar (now (file .entry)) interval c (now (days .entry)) (now (codes .entry)) (length (now (codes .entry)))) first 0 (now (sums .entry))) ⌝ }
+        ⌜ r ≡ at + length (rows (soFar (now (file .entry)) interval (marked c (now (days .entry))) (now (codes .entry)) (length (now (codes .entry)))) first 0 (now (sums .entry))) ⌝ }
     ensures put { λ _.
-        ⌜ now (out .exit) ≡ splice (now (out .entry)) at (rows (soFar (now (file .entry)) interval c (now (days .entry)) (now (codes .entry)) (length (now (codes .entry)))) first 0 (now (sums .entry))) ⌝ }
+        ⌜ now (out .exit) ≡ splice (now (out .entry)) at (rows (soFar (now (file .entry)) interval (marked c (now (days .entry))) (now (codes .entry)) (length (now (codes .entry)))) first 0 (now (sums .entry))) ⌝ }
 {
     let end = put_blanks(out, at, first, sums, places);
     let mut n: usize = 0;

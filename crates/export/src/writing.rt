@@ -7,6 +7,7 @@ ghost use Rattle.book.specs.Settings.{settingsOf};
 ghost use Rattle.calendar.specs.File.{fileOf};
 ghost use Rattle.export.specs.Export.{appointmentsFor, exportDays, exportFile, showsUnder};
 ghost use Rattle.calendar_writer.specs.DayLists.{daysWith, mostDays};
+ghost use Rattle.export.specs.Passes.{marked};
 ghost use Rattle.export.specs.Invariants.{ReadyToFill, Gathered};
 use crate::filling::put_days;
 use crate::requests::Request;
@@ -33,7 +34,7 @@ fn put_file(
     out: &mut [u8],
 ) -> usize
     requires { ⌜ 0 < s .interval ⌝ }
-    requires { ⌜ ReadyToFill (now file) c first (now days) (now sums) (now codes) ⌝ }
+    requires { ⌜ ReadyToFill (now file) (showsUnder c) first (marked c (now days)) (now days) (now sums) (now codes) ⌝ }
     requires { ⌜ length (now days) ≤ mostDays ⌝ }
     requires { ⌜ length (now places) ≡ length (now days) ⌝ }
     requires { ⌜ n ≡ length (daysWith (appointmentsFor (showsUnder c) (now file) (s .interval)) (length (now days)) first) ⌝ }
@@ -75,7 +76,7 @@ pub fn fill(
     out: &mut [u8],
 )
     requires { ⌜ q .book .settings ≡ settingsOf (now file) ⌝ }
-    requires { ⌜ Gathered (now file) (q .choice) (q .first .day .0) (now days) (now sums) (take n (now codes)) ⌝ }
+    requires { ⌜ Gathered (now file) (showsUnder (q .choice)) (q .first .day .0) (marked (q .choice) (now days)) (now days) (now sums) (take n (now codes)) ⌝ }
     requires { ⌜ n ≤ length (now codes) ⌝ }
     requires { ⌜ length (now codes) ≤ length (now spare) ⌝ }
     requires { ⌜ length (now days) ≤ mostDays ⌝ }

@@ -29,7 +29,7 @@ use Rattle.pages.specs.Pages.{Numbered, numbered, recordTimes, startOf, pageOf}
 use Rattle.pages.specs.Laws.Decoding.{Placed, code-placed}
 use Rattle.calendar_writer.specs.Sums.{Sum}
 use Rattle.export.specs.Export.{recordText, appointmentsFor, showsUnder}
-use Rattle.export.specs.Invariants.{sizeOf, GoodBook}
+use Rattle.export.specs.Invariants.{sizeOf, GoodBook, MarksShown}
 use Rattle.export.specs.Laws.Appointments.{length-for, bytes-for, alarms-for}
 use Rattle.export.specs.Passes.{someDay, CountedBook, Sound, marked, keptIn, weighs, Weighed}
 
@@ -78,11 +78,15 @@ module _ {f : List ℕ} {n : ℕ} (b : CountedBook f n) where
   text-long {x} w =
       rw (w .entry) (length-take-le (entryAt f (w .at) .text .length) (drop (entryAt f (w .at) .text .place) f) (rw (length-drop (entryAt f (w .at) .text .place) f) (omega (arith, w .sound .text))))
 
-  -- it shows where its rule does
-  module _ {first : ℕ} {days : List ℕ} (s : Spanned first days) (c : ShortMonth) where
-    pub shows-marked : {x : Numbered} → Whole x → (k : ℕ) → k < length days → marked c days k x ≡ showsUnder c (first + k) x
-    shows-marked {x} w k l =
-        rw (s .each k l) (rule-falls c (facts-known (first + k) (omega (arith, s .end))) (x .entry .«record») (rw (w .entry) (w .sound .fine)))
+  -- by its rule it is marked where it falls
+  pub marked-shows : {first : ℕ} {days : List ℕ} → Spanned first days → (c : ShortMonth) → MarksShown f (showsUnder c) first (marked c days) days
+  marked-shows {first} s c =
+      record {
+        each =
+            λ k l x m.
+            let w : Whole x = book-whole m in
+            rw (s .each k l) (rule-falls c (facts-known (first + k) (omega (arith, s .end))) (x .entry .«record») (rw (w .entry) (w .sound .fine)));
+      }
 
 -- lists that keep the same
 keep-same : {A : Type 0} (p q : A → Bool) (xs : List A) → ((x : A) → List·Memᴰ x xs → p x ≡ q x) → keep p xs ≡ keep q xs
@@ -103,11 +107,11 @@ total-same w v [] e = refl
 total-same w v (x ∷ xs) e = rw (e x (List·Memᴰ·head refl), total-same w v xs (λ y m. e y (List·Memᴰ·tail m)))
 
 -- the kept records, in order: each day finds its own among them
-pub kept-page : (f : List ℕ) (c : ShortMonth) (days : List ℕ) (k : ℕ) → k < length days → keep (marked c days k) (pageOf (keptIn c days) f) ≡ pageOf (marked c days k) f
+pub kept-page : (f : List ℕ) (mark : ℕ → Numbered → Bool) (n k : ℕ) → k < n → keep (mark k) (pageOf (keptIn mark n) f) ≡ pageOf (mark k) f
 unfolding pageOf
-kept-page f c days k l =
-    keep-sort startOf (marked c days k) (keep (keptIn c days) (numbered f))
-    ∙ ap (sort startOf) (keep-keep (marked c days k) (keptIn c days) (numbered f) (λ x h. some-yes (λ j. marked c days j x) (length days) k l h))
+kept-page f mark n k l =
+    keep-sort startOf (mark k) (keep (keptIn mark n) (numbered f))
+    ∙ ap (sort startOf) (keep-keep (mark k) (keptIn mark n) (numbered f) (λ x h. some-yes (λ j. mark j x) n k l h))
 
 -- what a sum of weights holds
 weights : (f : List ℕ) (xs : List Numbered) → total (λ x. 4294967296 + bit (recordTimes x .alarm) * 65536 + sizeOf f x) xs ≡ length xs * 4294967296 + total (λ x. bit (recordTimes x .alarm)) xs * 65536 + total (sizeOf f) xs
@@ -123,27 +127,29 @@ few-alarms f (x ∷ xs) = omega (arith, few-alarms f xs, bit-most (recordTimes x
 parts-of : (s n a b : ℕ) → s ≡ n * 4294967296 + a * 65536 + b → a ≤ b → b ≤ 65535 → (s / 4294967296 ≡ n) × (s / 65536 % 65536 ≡ a) × (s % 65536 ≡ b)
 parts-of s n a b e l h = (omega arith, omega arith, omega arith)
 
-module _ {f : List ℕ} {n : ℕ} (b : CountedBook f n) (good : GoodBook f) {first : ℕ} {days : List ℕ} (span : Spanned first days) (c : ShortMonth) where
-  pub same-kept : (k : ℕ) → k < length days → keep (marked c days k) (numbered f) ≡ keep (showsUnder c (first + k)) (numbered f)
-  same-kept k l = keep-same (marked c days k) (showsUnder c (first + k)) (numbered f) (λ x m. shows-marked b span c (book-whole b m) k l)
+module _ {f : List ℕ} {shows : ℕ → Numbered → Bool} {first : ℕ} {mark : ℕ → Numbered → Bool} {days : List ℕ} (marks : MarksShown f shows first mark days) where
+  pub same-kept : (k : ℕ) → k < length days → keep (mark k) (numbered f) ≡ keep (shows (first + k)) (numbered f)
+  same-kept k l = keep-same (mark k) (shows (first + k)) (numbered f) (marks .each k l)
 
-  pub same-page : (k : ℕ) → k < length days → pageOf (marked c days k) f ≡ pageOf (showsUnder c (first + k)) f
+  pub same-page : (k : ℕ) → k < length days → pageOf (mark k) f ≡ pageOf (shows (first + k)) f
   unfolding pageOf
   same-page k l = ap (sort startOf) (same-kept k l)
 
   -- the sum of a day's weights is the sum of its appointments
-  pub weighed-sum : (interval : ℕ) {sums : List ℕ} → Weighed f c days sums → (k : ℕ) → k < length days → Sum (getD sums k 0) (appointmentsFor (showsUnder c) f interval (first + k))
-  weighed-sum interval {sums} w k l =
+  pub weighed-sum :
+      {n : ℕ} → CountedBook f n → GoodBook f → (interval : ℕ) {sums : List ℕ} → Weighed f mark days sums
+      → (k : ℕ) → k < length days → Sum (getD sums k 0) (appointmentsFor shows f interval (first + k))
+  weighed-sum b good interval {sums} w k l =
       let d = first + k in
-      let xs = keep (showsUnder c d) (numbered f) in
+      let xs = keep (shows d) (numbered f) in
       let same : (x : Numbered) → List·Memᴰ x xs → weighs x ≡ 4294967296 + bit (recordTimes x .alarm) * 65536 + sizeOf f x =
-      λ x m. rw (text-long b (book-whole b (keep-member (showsUnder c d) m .0))) in
+      λ x m. rw (text-long b (book-whole b (keep-member (shows d) m .0))) in
       let e : getD sums k 0 ≡ length xs * 4294967296 + total (λ x. bit (recordTimes x .alarm)) xs * 65536 + total (sizeOf f) xs =
       w .each k l ∙ ap (total weighs) (same-kept k l) ∙ total-same weighs _ xs same ∙ weights f xs in
-      let most : total (sizeOf f) xs ≤ 65535 = omega (arith, total-keep (sizeOf f) (showsUnder c d) (numbered f), good .sum) in
+      let most : total (sizeOf f) xs ≤ 65535 = omega (arith, total-keep (sizeOf f) (shows d) (numbered f), good .sum) in
       let p = parts-of (getD sums k 0) (length xs) (total (λ x. bit (recordTimes x .alarm)) xs) (total (sizeOf f) xs) e (few-alarms f xs) most in
       record {
-        count = p .0 ∙ sym (length-for (showsUnder c) f interval d);
-        alarm = p .1 ∙ sym (alarms-for (showsUnder c) f interval d);
-        bytes = p .2 ∙ sym (bytes-for (showsUnder c) f interval d);
+        count = p .0 ∙ sym (length-for shows f interval d);
+        alarm = p .1 ∙ sym (alarms-for shows f interval d);
+        bytes = p .2 ∙ sym (bytes-for shows f interval d);
       }

@@ -27,7 +27,6 @@ use Rattle.book.specs.Laws.Books.{book-accepted}
 use Rattle.book.specs.Laws.Counts.{count-most}
 use Rattle.book.specs.declared.types.Book.{Book}
 use Rattle.book.specs.declared.types.BookAnswer.{BookAnswer}
-use Rattle.falls.specs.declared.types.ShortMonth.{ShortMonth}
 use Rattle.pages.specs.Pages.{Numbered, numbered}
 use Rattle.pages.specs.Codes.{code}
 use Rattle.calendar.specs.File.{zeros, fileOf}
@@ -36,10 +35,10 @@ use Rattle.calendar_writer.specs.DayLists.{daysWith, pastLastBlock}
 use Rattle.calendar_writer.specs.Sums.{measureOf, sumUp}
 use Rattle.calendar_writer.specs.Laws.Sums.{measure-sums}
 use Rattle.calendar_writer.specs.declared.types.Measure.{Measure}
-use Rattle.export.specs.Export.{intervalOf, settingsFor, appointmentsFor, exportDays, exportFile, sized, spanAnswer, exportFrom, exportAnswer, leavesFile, spanLeaves, exportLeaves, showsUnder}
+use Rattle.export.specs.Export.{intervalOf, settingsFor, appointmentsFor, exportDays, exportFile, sized, spanAnswer, exportFrom, exportAnswer, leavesFile, spanLeaves, exportLeaves}
 use Rattle.export.specs.Laws.Records.{good-book}
 use Rattle.export.specs.Passes.{AtMost, keptIn, Weighed}
-use Rattle.export.specs.Invariants.{ReadyToFill, Gathered}
+use Rattle.export.specs.Invariants.{MarksShown, ReadyToFill, Gathered}
 use Rattle.export.specs.Laws.Ready.{gathered-ordered, ready-sums}
 use Rattle.export.specs.declared.answers.ExportAnswer.{ExportAnswer}
 
@@ -48,7 +47,7 @@ unfolding intervalOf
 interval-some g =
     eq-elim (λ n. 0 < n) g 15 _ _ (λ _. omega arith) (λ _. eq-elim (λ n. 0 < n) g 60 _ _ (λ _. omega arith) (λ _. omega arith))
 
-module _ (f : List ℕ) (c : ShortMonth) (first count : ℕ) {s : CalendarSettings} (e : s ≡ settingsFor (settingsOf f)) where
+module _ (shows : ℕ → Numbered → Bool) (f : List ℕ) (first count : ℕ) {s : CalendarSettings} (e : s ≡ settingsFor (settingsOf f)) where
   interval-of : s .interval ≡ intervalOf (settingsOf f .granularity)
   unfolding settingsFor
   interval-of = ap (λ (z : CalendarSettings). z .interval) e
@@ -56,42 +55,45 @@ module _ (f : List ℕ) (c : ShortMonth) (first count : ℕ) {s : CalendarSettin
   pub settings-interval : 0 < s .interval
   settings-interval = rw interval-of (interval-some (settingsOf f .granularity))
 
-  pub export-days : daysWith (appointmentsFor (showsUnder c) f (s .interval)) count first ≡ exportDays (showsUnder c) f first count
+  pub export-days : daysWith (appointmentsFor shows f (s .interval)) count first ≡ exportDays shows f first count
   unfolding exportDays
   export-days = rw interval-of
 
-  pub export-file : fileOf s (daysWith (appointmentsFor (showsUnder c) f (s .interval)) count first) ≡ exportFile (showsUnder c) f first count
+  pub export-file : fileOf s (daysWith (appointmentsFor shows f (s .interval)) count first) ≡ exportFile shows f first count
   unfolding exportFile
   export-file = rw (export-days, e)
 
 -- what collecting leaves
-module _ (f : List ℕ) (c : ShortMonth) {first : ℕ} {days sums codes : List ℕ} {b : Book} where
-  pub collect-gathered : bookOf f ≡ BookAnswer.Accepted b → Spanned first days → codes ≡ map code (keep (keptIn c days) (numbered f)) → Weighed f c days sums → Gathered f c first days sums codes
-  collect-gathered e s k w =
+module _ {f : List ℕ} {shows : ℕ → Numbered → Bool} {first : ℕ} {mark : ℕ → Numbered → Bool} {days sums codes : List ℕ} {b : Book} where
+  pub collect-gathered :
+      bookOf f ≡ BookAnswer.Accepted b → Spanned first days → MarksShown f shows first mark days
+      → codes ≡ map code (keep (keptIn mark (length days)) (numbered f)) → Weighed f mark days sums → Gathered f shows first mark days sums codes
+  collect-gathered e s m k w =
       let a : AcceptedBook f b = book-accepted f e in
       record {
         records = b .records;
         counted = record { size = a .size; long = a .long; count = a .count };
         good = good-book f e;
         span = s;
+        marks = m;
         weighed = w;
         kept = k;
       }
 
-module _ {f : List ℕ} {c : ShortMonth} {first : ℕ} {days sums codes : List ℕ} (g : Gathered f c first days sums codes) where
-  pub gathered-measure : sumUp 0 0 0 0 sums ≡ measureOf (settingsFor (settingsOf f)) (exportDays (showsUnder c) f first (length days))
+module _ {f : List ℕ} {shows : ℕ → Numbered → Bool} {first : ℕ} {mark : ℕ → Numbered → Bool} {days sums codes : List ℕ} (g : Gathered f shows first mark days sums codes) where
+  pub gathered-measure : sumUp 0 0 0 0 sums ≡ measureOf (settingsFor (settingsOf f)) (exportDays shows f first (length days))
   unfolding exportDays
   gathered-measure =
-      let r : ReadyToFill f c first days sums (sort minuteIn codes) = gathered-ordered g refl in
+      let r : ReadyToFill f shows first mark days sums (sort minuteIn codes) = gathered-ordered g refl in
       let i = intervalOf (settingsOf f .granularity) in
-      measure-sums (appointmentsFor (showsUnder c) f i) (settingsFor (settingsOf f)) first sums (ready-sums r i)
-      ∙ ap (λ (n : ℕ). measureOf (settingsFor (settingsOf f)) (daysWith (appointmentsFor (showsUnder c) f i) n first)) (g .weighed .long)
+      measure-sums (appointmentsFor shows f i) (settingsFor (settingsOf f)) first sums (ready-sums r i)
+      ∙ ap (λ (n : ℕ). measureOf (settingsFor (settingsOf f)) (daysWith (appointmentsFor shows f i) n first)) (g .weighed .long)
 
   -- the measure of the export
   pub record Measures (m : Measure) : Type 0 where
-    pub length-is : m .length ≡ length (exportFile (showsUnder c) f first (length days))
-    pub few : m .descriptors ≡ length (exportDays (showsUnder c) f first (length days))
-    pub past-is : m .«past_last_block» ≡ pastLastBlock (exportDays (showsUnder c) f first (length days))
+    pub length-is : m .length ≡ length (exportFile shows f first (length days))
+    pub few : m .descriptors ≡ length (exportDays shows f first (length days))
+    pub past-is : m .«past_last_block» ≡ pastLastBlock (exportDays shows f first (length days))
 
   pub gathered-measures : {m : Measure} → m ≡ sumUp 0 0 0 0 sums → Measures m
   unfolding exportFile

@@ -1,21 +1,23 @@
 -- `collect` meets its contract: a record that shows is taken in, another is passed, by the laws of `Collecting`.
 -- Assumes nothing.
-use Prim.Native.Nat.{_-_, _≤_}
-use mathlib.Core.Path.{_≡_, refl, sym, _∙_}
+use Prim.Native.Nat.{ℕ, _-_, _<_, _≤_}
+use mathlib.Core.Path.{_≡_, refl, sym, ap, _∙_}
 use native.Mathlib.Omega.{arith}
 use lib.ListN.{length, getD, length-set}
 use Rattle.book.specs.Laws.Books.{cursor-ahead}
 use Rattle.book.specs.Laws.Counts.{count-most}
 use Rattle.occurrences.specs.Rules.{ruleShows}
 use Rattle.occurrences.specs.Next.{Next}
+use Rattle.occurrences.specs.declared.types.Rule.{Rule}
 use Rattle.occurrences.specs.Laws.After.{spanned-days, next-ahead}
-use Rattle.export.specs.Passes.{AtMost}
+use Rattle.pages.specs.Invariants.{recordAt}
+use Rattle.export.specs.Passes.{AtMost, marked}
 use Rattle.export.specs.Laws.Collecting.{Collecting, collect-start, collect-sound, collect-skip, collect-take, collect-end}
 use Rattle.export.proofs.collecting.collect.Statement.{statement}
 use Rattle.export.proofs.collecting.collect.Tie as tie
 
 abbrev Inv-loop : tie.InvT-loop
-Inv-loop file records c first days codes₀ sums₀ at₀ n₀ count₀ codes sums at n count = Collecting file c days n at count codes sums × (n ≤ records) × (length codes ≡ length codes₀)
+Inv-loop file records c first days codes₀ sums₀ at₀ n₀ count₀ codes sums at n count = Collecting file (marked c days) days n at count codes sums × (n ≤ records) × (length codes ≡ length codes₀)
 
 abbrev μ-loop : tie.MeasureT-loop
 μ-loop file records c first days codes₀ sums₀ at₀ n₀ count₀ codes sums at n count = records - n
@@ -26,6 +28,12 @@ start-of n = n .before .before .before .before .before .before .before .before .
 
 shown : (n : tie.After-next-from Inv-loop μ-loop) → let a = start-of n .args in Next (λ k. ruleShows (a .c) (n .before .before .rule-at .result) (getD (a .days .now) k 0)) 0 (length (a .days .now)) (n .next-from .result)
 shown n = next-ahead _ _ (n .before .on-to .ensures) (n .next-from .ensures)
+
+-- its rule shows where it is marked
+rule-marks : (n : tie.After-next-from Inv-loop μ-loop) → let a = start-of n .args in let l = n .before .before .before .before .before in (k : ℕ) → k < length (a .days .now) → ruleShows (a .c) (n .before .before .rule-at .result) (getD (a .days .now) k 0) ≡ marked (a .c) (a .days .now) k (recordAt (a .file .now) (l .loop .n) (l .loop .at))
+rule-marks n k i =
+    let a = start-of n .args in
+    ap (λ (r : Rule). ruleShows (a .c) r (getD (a .days .now) k 0)) (n .before .before .rule-at .ensures)
 
 loop-holds : tie.Need-loop-holds Inv-loop μ-loop
 loop-holds c =
@@ -81,7 +89,7 @@ loop-again c =
     let l = n .before .before .before .before .before in
     let s = l .before .before .before .before .before in
     let g = l .loop .inv .0 in (
-      collect-take g (s .pre .0) (omega arith) (n .before .before .rule-at .ensures) (n .before .before .before .next-place .ensures) (shown n) (omega arith) (omega (arith, g .few)) (t .take-in .ensures .0) (t .take-in .ensures .1),
+      collect-take g (s .pre .0) (omega arith) (rule-marks n) (n .before .before .before .next-place .ensures) (shown n) (omega arith) (omega (arith, g .few)) (t .take-in .ensures .0) (t .take-in .ensures .1),
       omega arith,
       length-set (l .loop .codes) (l .loop .count) (t .take-in .result) ∙ l .loop .inv .2,
     )
@@ -94,7 +102,7 @@ loop-again-2 c =
     let n = c .before in
     let l = n .before .before .before .before .before in
     let s = l .before .before .before .before .before in (
-      collect-skip (l .loop .inv .0) (s .pre .0) (omega arith) (n .before .before .rule-at .ensures) (n .before .before .before .next-place .ensures) (shown n) (omega arith),
+      collect-skip (l .loop .inv .0) (s .pre .0) (omega arith) (rule-marks n) (n .before .before .before .next-place .ensures) (shown n) (omega arith),
       omega arith,
       l .loop .inv .2,
     )

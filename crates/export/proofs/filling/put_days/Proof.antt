@@ -5,7 +5,7 @@ use mathlib.Core.Path.{_≡_, sym, _∙_}
 use native.Mathlib.Omega.{arith}
 use lib.ListN.{length}
 use Rattle.calendar_writer.specs.Sums.{rows, unitsTo, noneYet}
-use Rattle.export.specs.Passes.{soFar}
+use Rattle.export.specs.Passes.{marked, soFar}
 use Rattle.calendar_writer.specs.Scatter.{FilledBlocks}
 use Rattle.calendar_writer.specs.Laws.Filling.{filled-self, filled-over}
 use Rattle.export.specs.Laws.Ready.{ready-sound, ready-long, blank-long, ready-start, ready-room, ready-next, ready-whole}
@@ -14,7 +14,7 @@ use Rattle.export.proofs.filling.put_days.Tie as tie
 
 abbrev Inv-loop : tie.InvT-loop
 Inv-loop file c interval first days sums codes places₀ out₀ at end n₀ places out n =
-    FilledBlocks out₀ at first sums (soFar file interval c days codes n) places out × (n ≤ length codes) × (length places ≡ length days) × (at + 64 * unitsTo (length sums) sums ≤ length out₀)
+    FilledBlocks out₀ at first sums (soFar file interval (marked c days) codes n) places out × (n ≤ length codes) × (length places ≡ length days) × (at + 64 * unitsTo (length sums) sums ≤ length out₀)
 
 abbrev μ-loop : tie.MeasureT-loop
 μ-loop file c interval first days sums codes places₀ out₀ at end n₀ places out n = length codes - n

@@ -10,7 +10,9 @@ use Rattle.book.specs.Laws.Books.{book-accepted}
 use Rattle.export.specs.Export.{exportDays, exportFile, spanAnswer, leavesFile, showsUnder}
 use Rattle.calendar_writer.specs.DayLists.{pastLastBlock}
 use Rattle.export.specs.Laws.Answers.{span-written}
+use Rattle.export.specs.Passes.{CountedBook, marked}
 use Rattle.export.specs.Invariants.{Gathered}
+use Rattle.export.specs.Laws.Books.{marked-shows}
 use Rattle.export.specs.Laws.Export.{collect-gathered, Measures, gathered-measures, span-is, span-left}
 use borrow.Author.Needs.{needs}
 use Rattle.export.proofs.working.export_days.Statement.{statement}
@@ -28,16 +30,20 @@ start-of m = from (packed m)
 accepted : (s : tie.Start) → AcceptedBook (s .args .file .now) (s .args .q .book)
 accepted s = book-accepted (s .args .file .now) (s .pre .0 .book)
 
+counted : (s : tie.Start) → CountedBook (s .args .file .now) (s .args .q .book .records)
+counted s = let b = accepted s in record { size = b .size; long = b .long; count = b .count }
+
 -- the days are as many as before
 count : (m : tie.After-measure) → length (packed m .pack-days .last .1 .0) ≡ length (start-of m .args .days .now)
 count m = packed m .pack-days .kept .1 .0
 
 -- what is collected, and its measure
-gathers : (m : tie.After-measure) → let a = start-of m .args in let k = m .before .before .before .before .before .before in Gathered (a .file .now) (a .q .choice) (a .q .first .day .0) (packed m .pack-days .last .1 .0) (k .collect .last .1 .1 .1 .1 .1 .1 .0) (take (k .collect .result) (k .collect .last .1 .1 .1 .1 .1 .0))
+gathers : (m : tie.After-measure) → let a = start-of m .args in let k = m .before .before .before .before .before .before in Gathered (a .file .now) (showsUnder (a .q .choice)) (a .q .first .day .0) (marked (a .q .choice) (packed m .pack-days .last .1 .0)) (packed m .pack-days .last .1 .0) (k .collect .last .1 .1 .1 .1 .1 .1 .0) (take (k .collect .result) (k .collect .last .1 .1 .1 .1 .1 .0))
 gathers m =
     let s = start-of m in
     let k = m .before .before .before .before .before .before in
-    collect-gathered (s .args .file .now) (s .args .q .choice) (s .pre .0 .book) (packed m .pack-days .ensures) (k .collect .ensures .1 .0) (k .collect .ensures .1 .1)
+    let span = packed m .pack-days .ensures in
+    collect-gathered (s .pre .0 .book) span (marked-shows (counted s) span (s .args .q .choice)) (k .collect .ensures .1 .0) (k .collect .ensures .1 .1)
 
 measures : (m : tie.After-measure) → Measures (gathers m) (m .measure .result)
 measures m = gathered-measures (gathers m) (m .measure .ensures)
@@ -75,9 +81,8 @@ collect-requires c κs =
     let p = c .before .before .before .before .before .before in
     let s = from p in
     let w = s .pre .1 in
-    let b = accepted s in
     let long = p .pack-days .kept .1 .0 in
-    (record { size = b .size; long = b .long; count = omega (arith, b .count) }, (p .pack-days .ensures, (omega (arith, w .all-codes), (omega (arith, w .each-sum), w .clear))))
+    (counted s, (p .pack-days .ensures, (omega (arith, w .all-codes), (omega (arith, w .each-sum), w .clear))))
 
 measure-requires : tie.Need-measure-requires
 measure-requires c κs = search needs

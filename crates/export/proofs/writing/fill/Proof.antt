@@ -8,7 +8,8 @@ use lib.Seq.{length-take-le}
 use Rattle.prelude.specs.Splice.{splice}
 use Rattle.book.specs.Settings.{settingsOf}
 use Rattle.pages.specs.Laws.Codes.{ordered-front}
-use Rattle.export.specs.Export.{settingsFor}
+use Rattle.export.specs.Export.{settingsFor, showsUnder}
+use Rattle.export.specs.Passes.{marked}
 use Rattle.export.specs.Invariants.{ReadyToFill}
 use Rattle.export.specs.Laws.Ready.{gathered-ordered}
 use Rattle.export.specs.Laws.Export.{settings-interval, export-days, export-file}
@@ -24,7 +25,7 @@ made : (t : tie.After-settings-for) → t .settings-for .result ≡ settingsFor 
 made t = t .settings-for .ensures ∙ ap settingsFor (from t .pre .0)
 
 -- the codes in order
-ready : (t : tie.After-settings-for) → let a = from t .args in ReadyToFill (a .file .now) (a .q .choice) (a .q .first .day .0) (a .days .now) (a .sums .now) (take (a .n) (t .before .before .before .before .before .order-codes .last .0))
+ready : (t : tie.After-settings-for) → let a = from t .args in ReadyToFill (a .file .now) (showsUnder (a .q .choice)) (a .q .first .day .0) (marked (a .q .choice) (a .days .now)) (a .days .now) (a .sums .now) (take (a .n) (t .before .before .before .before .before .order-codes .last .0))
 ready t =
     let o = t .before .before .before .before .before in
     let s = from t in
@@ -56,7 +57,7 @@ put-file-requires c κs =
     let e = made t in
     let p = s .pre .1 .1 .1 .1 in
     let count = length (a .days .now) in
-    (settings-interval (a .file .now) (a .q .choice) (a .q .first .day .0) count e, (ready t, (p .0, (p .1 .0, (p .1 .1 .0 ∙ ap length (sym (export-days (a .file .now) (a .q .choice) (a .q .first .day .0) count e)), omega (arith, ap length (export-file (a .file .now) (a .q .choice) (a .q .first .day .0) count e), p .1 .1 .1))))))
+    (settings-interval (showsUnder (a .q .choice)) (a .file .now) (a .q .first .day .0) count e, (ready t, (p .0, (p .1 .0, (p .1 .1 .0 ∙ ap length (sym (export-days (showsUnder (a .q .choice)) (a .file .now) (a .q .first .day .0) count e)), omega (arith, ap length (export-file (showsUnder (a .q .choice)) (a .file .now) (a .q .first .day .0) count e), p .1 .1 .1))))))
 
 same-length : tie.Need-same-length
 same-length c = search needs
@@ -75,7 +76,7 @@ returns c =
     let f = c .before .before .before .before in
     let t = f .before .before .before .before .before in
     let a = from t .args in
-    f .put-file .ensures .1 ∙ ap (splice (a .out .now) 0) (export-file (a .file .now) (a .q .choice) (a .q .first .day .0) (length (a .days .now)) (made t))
+    f .put-file .ensures .1 ∙ ap (splice (a .out .now) 0) (export-file (showsUnder (a .q .choice)) (a .file .now) (a .q .first .day .0) (length (a .days .now)) (made t))
 
 pub fill-spec : {M : Type 1} → statement M
 fill-spec =

@@ -11,7 +11,7 @@ use Rattle.export.specs.Export.{appointmentsFor, showsUnder}
 use Rattle.calendar_writer.specs.DayLists.{daysWith, mostDays}
 use Rattle.calendar.specs.Laws.File.{length-head}
 use Rattle.calendar_writer.specs.Sums.{sumTable, rows}
-use Rattle.export.specs.Passes.{soFar}
+use Rattle.export.specs.Passes.{marked, soFar}
 use Rattle.export.specs.Laws.Ready.{ready-few, ready-table, ready-file}
 use borrow.Author.Needs.{needs}
 use Rattle.export.proofs.writing.put_file.Statement.{statement}
@@ -24,7 +24,7 @@ abbrev days : tie.Start → List Day
 days s = daysWith (appointmentsFor (showsUnder (s .args .c)) (s .args .file .now) (s .args .s .interval)) (length (s .args .days .now)) (s .args .first)
 
 abbrev last : tie.Start → List ℕ
-last s = rows (soFar (s .args .file .now) (s .args .s .interval) (s .args .c) (s .args .days .now) (s .args .codes .now) (length (s .args .codes .now))) (s .args .first) 0 (s .args .sums .now)
+last s = rows (soFar (s .args .file .now) (s .args .s .interval) (marked (s .args .c) (s .args .days .now)) (s .args .codes .now) (length (s .args .codes .now))) (s .args .first) 0 (s .args .sums .now)
 
 -- there are no more descriptors than days
 few : (s : tie.Start) → s .args .n ≤ mostDays
