@@ -1,4 +1,4 @@
--- From one day that passes to the next: nothing happens between.
+-- From one day that passes to the next: nothing happens between. Tests that agree on the days do the same.
 -- Assumes nothing.
 use Prim.Native.Nat.{ℕ, zero, suc, _+_, _-_, _<_, _≤_}
 use mathlib.Core.Path.{_≡_, refl, sym, ap, _∙_}
@@ -76,3 +76,16 @@ module _ (p : ℕ → Bool) where
     scatter-first {n} {end} out b h =
         let e : end ≡ end - 0 = omega arith in
         ap (λ (m : ℕ). scatter m p piece places 0 out) e ∙ scatter-skip out (omega arith) b h
+
+-- tests that agree on the days do the same
+module _ {p q : ℕ → Bool} where
+  pub added-same : {w n : ℕ} {old new : List ℕ} → ((k : ℕ) → k < n → p k ≡ q k) → Added p w n old new → Added q w n old new
+  added-same {w} {old} e a = record { long = a .long; behind = λ k l. a .behind k l ∙ ap (λ (t : Bool). getD old k 0 + ifB t w 0) (e k l); ahead = a .ahead }
+
+  pub scatter-same :
+      (piece places : List ℕ) (m k : ℕ) (out : List ℕ) → ((j : ℕ) → k ≤ j → j < k + m → p j ≡ q j)
+      → scatter m p piece places k out ≡ scatter m q piece places k out
+  unfolding scatter
+  scatter-same piece places zero k out e = refl
+  scatter-same piece places (suc m) k out e =
+      rw (e k (omega arith) (omega arith)) (scatter-same piece places m (suc k) _ (λ j a b. e j (omega arith) (omega arith)))

@@ -1,14 +1,14 @@
--- `fill_code` meets its contract: the piece is the record's appointment, and its rule shows where the record does.
+-- `fill_code` meets its contract: the piece is the record's appointment, and its rule shows where the record is marked.
 -- Assumes nothing.
-use Prim.Native.Nat.{ℕ, _+_, _≤_}
+use Prim.Native.Nat.{ℕ, _+_, _<_, _≤_}
 use mathlib.Core.Path.{_≡_, sym, ap, _∙_}
+use mathlib.Core.Bool.{Bool}
 use mathlib.Core.List.{List}
 use native.Mathlib.Omega.{arith}
 use lib.ListN.{length, getD, take, drop, length-take}
 use lib.Seq.{length-take-le}
 use Rattle.prelude.specs.Bytes.{bit, part}
 use Rattle.prelude.specs.Laws.Splice.{take-splice}
-use Rattle.falls.specs.declared.types.ShortMonth.{ShortMonth}
 use Rattle.pages.specs.Pages.{pageLineOf}
 use Rattle.pages.specs.Codes.{decode}
 use Rattle.pages.specs.declared.types.Line.{Line}
@@ -18,6 +18,7 @@ use Rattle.calendar.specs.Laws.File.{length-appointment}
 use Rattle.occurrences.specs.Rules.{ruleShows}
 use Rattle.occurrences.specs.declared.types.Rule.{Rule}
 use Rattle.calendar_writer.specs.Scatter.{Added, scatter}
+use Rattle.calendar_writer.specs.Laws.Scatter.{added-same, scatter-same}
 use Rattle.export.specs.Passes.{marked}
 use borrow.Author.Needs.{needs}
 use Rattle.texts.specs.Notes.{mostText}
@@ -61,19 +62,19 @@ lent c =
 fits : (c : tie.After-put-appointment) → c .put-appointment .result ≤ length (c .put-appointment .last .0)
 fits c = omega (arith, c .put-appointment .ensures .0, length-appointment (piece (c .before .before)), short (c .before .before))
 
--- a rule shows where its record does
-rule-marks : (c : tie.After-rule-at) → let a = begin (c .before .before .before .before) .args in (k : ℕ) → ruleShows (a .c) (c .rule-at .result) (getD (a .days .now) k 0) ≡ marked (a .c) (a .days .now) k (decode (a .file .now) (a .code))
+-- a rule shows where its record is marked
+rule-marks : (c : tie.After-rule-at) → let a = begin (c .before .before .before .before) .args in (k : ℕ) → k < length (a .days .now) → ruleShows (a .c) (c .rule-at .result) (getD (a .days .now) k 0) ≡ marked (a .c) (a .days .now) k (decode (a .file .now) (a .code))
 unfolding decode
-rule-marks c k =
+rule-marks c k l =
     let a = begin (c .before .before .before .before) .args in
     ap (λ (r : Rule). ruleShows (a .c) r (getD (a .days .now) k 0)) (c .rule-at .ensures)
 
--- the same of an equal rule and an equal piece
-moved : {r s : Rule} {xs ys : List ℕ} (c : ShortMonth) (days : List ℕ) {n : ℕ} {old new : List ℕ} → r ≡ s → xs ≡ ys → Added (λ k. ruleShows c r (getD days k 0)) (length xs) n old new → Added (λ k. ruleShows c s (getD days k 0)) (length ys) n old new
-moved c days e q a = rw (e, q) at a
+-- the same of a test that agrees and an equal piece
+moved : {s t : ℕ → Bool} {xs ys : List ℕ} {n : ℕ} {old new : List ℕ} → ((k : ℕ) → k < n → s k ≡ t k) → xs ≡ ys → Added s (length xs) n old new → Added t (length ys) n old new
+moved e q a = rw q at (added-same e a)
 
-spread : {r s : Rule} {xs ys : List ℕ} (c : ShortMonth) (days : List ℕ) (n : ℕ) (places out : List ℕ) → r ≡ s → xs ≡ ys → scatter n (λ k. ruleShows c r (getD days k 0)) xs places 0 out ≡ scatter n (λ k. ruleShows c s (getD days k 0)) ys places 0 out
-spread c days n places out e q = rw (e, q)
+spread : {s t : ℕ → Bool} {xs ys : List ℕ} (n : ℕ) (places out : List ℕ) → ((k : ℕ) → k < n → s k ≡ t k) → xs ≡ ys → scatter n s xs places 0 out ≡ scatter n t ys places 0 out
+spread {ys} n places out e q = rw q (scatter-same ys places n 0 out (λ k a b. e k (omega arith)))
 
 line-of-requires : tie.Need-line-of-requires
 line-of-requires c κs = search needs
@@ -106,7 +107,7 @@ put-hits-requires c κs =
     let r = c .before .before .before in
     let s = begin (r .before .before .before .before) in
     let p = s .pre .1 .1 in
-    (p .0, (p .1 .0, record { each = λ k l h. rw (lent (r .before .before)) (p .1 .1 .each k l (sym (rule-marks r k) ∙ h)) }))
+    (p .0, (p .1 .0, record { each = λ k l h. rw (lent (r .before .before)) (p .1 .1 .each k l (sym (rule-marks r k l) ∙ h)) }))
 
 same-length : tie.Need-same-length
 same-length c = search needs
@@ -115,14 +116,13 @@ same-length-2 : tie.Need-same-length-2
 same-length-2 c = search needs
 
 returns : tie.Need-returns
-unfolding decode
 returns c =
     let h = c .before .before .before .before in
     let r = h .before .before .before .before in
     let a = begin (r .before .before .before .before) .args in
-    let e = r .rule-at .ensures in
+    let e = rule-marks r in
     let q = lent (r .before .before) in
-    (moved (a .c) (a .days .now) e q (h .put-hits .ensures .0), h .put-hits .ensures .1 ∙ spread (a .c) (a .days .now) (length (a .days .now)) (a .places .now) (a .out .now) e q)
+    (moved e q (h .put-hits .ensures .0), h .put-hits .ensures .1 ∙ spread (length (a .days .now)) (a .places .now) (a .out .now) e q)
 
 pub fill-code-spec : {M : Type 1} → statement M
 fill-code-spec =
