@@ -1,7 +1,7 @@
 // The Calendar file: how many days it has, its descriptors, and a day's appointments.
 ghost use mathlib.Core.Path.{_≡_};
 ghost use Rattle.calendar.specs.Reader.{calendarOf};
-ghost use Rattle.calendar.specs.Shown.{descriptorAnswer, countAnswer, entryAnswer};
+ghost use Rattle.calendar.specs.Shown.{descriptorAnswer, countAnswer, appointmentAnswer};
 ghost use Rattle.marshal.specs.CalendarAnswers.{daysOut, descriptorOut, appointmentsOut, appointmentOut};
 use days::types::CalendarDay;
 use marshal::calendar_answers::AppointmentOut;
@@ -40,7 +40,7 @@ pub extern "C" fn apptbook_calendar_appointment(
     day: u16,
     appointment: usize,
 ) -> AppointmentOut
-    ensures { λ r. ⌜ r ≡ appointmentOut (entryAnswer (now (file .entry)) day appointment) ⌝ }
+    ensures { λ r. ⌜ r ≡ appointmentOut (appointmentAnswer (now (file .entry)) day appointment) ⌝ }
 {
     let n = CalendarDay(day);
     appointment_out(calendar::shown::appointment_at(file, n, appointment))

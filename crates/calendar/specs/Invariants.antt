@@ -56,7 +56,7 @@ pub record InTable (f : List ℕ) (e p : ℕ) : Type 0 where
   pub size : length f ≤ mostBytes
 
 -- an appointment whose bytes lie in the file
-pub record EntryIn (f : List ℕ) (at : ℕ) : Type 0 where
+pub record AppointmentIn (f : List ℕ) (at : ℕ) : Type 0 where
   pub size : 5 ≤ sizeAt f at
   pub inside : nextAt f at ≤ length f
 

@@ -15,8 +15,8 @@ use Rattle.calendar.specs.declared.types.CalendarAnswer.{CalendarAnswer}
 use Rattle.calendar.specs.declared.types.Descriptor.{Descriptor}
 use Rattle.calendar.specs.declared.types.DescriptorAnswer.{DescriptorAnswer}
 use Rattle.calendar.specs.declared.types.CountAnswer.{CountAnswer}
-use Rattle.calendar.specs.declared.types.Entry.{Entry}
-use Rattle.calendar.specs.declared.types.EntryAnswer.{EntryAnswer}
+use Rattle.calendar.specs.declared.types.StoredAppointment.{StoredAppointment}
+use Rattle.calendar.specs.declared.types.AppointmentAnswer.{AppointmentAnswer}
 
 -- the places of a day's appointments, among k descriptors from place p on: "a day with no descriptor shows nothing"
 unfoldable pub placesFrom : ℕ → List ℕ → ℕ → ℕ → List ℕ
@@ -39,7 +39,7 @@ unfoldable pub appointmentsOn : List ℕ → ℕ → List Appointment
 appointmentsOn f d = map (appointmentAt f) (placesOn f d)
 
 -- the same appointment with the stretch of its text
-unfoldable pub shownAt : List ℕ → ℕ → Entry
+unfoldable pub shownAt : List ℕ → ℕ → StoredAppointment
 shownAt f at =
     record {
       minute = record { 0 = minuteAt f at };
@@ -70,19 +70,19 @@ unfoldable pub countAnswer : List ℕ → ℕ → CountAnswer
 countAnswer f d = countFrom f d (calendarOf f)
 
 -- the k-th appointment of a day: the file's own refusal, then 11, then 10
-unfoldable pub entryOf : List ℕ → ℕ → List ℕ → EntryAnswer
-entryOf f k places =
-    ifLt k (length places) (EntryAnswer.Entry (shownAt f (getD places k 0))) (EntryAnswer.Refused (refusal noSuchNumber))
+unfoldable pub appointmentAmong : List ℕ → ℕ → List ℕ → AppointmentAnswer
+appointmentAmong f k places =
+    ifLt k (length places) (AppointmentAnswer.Appointment (shownAt f (getD places k 0))) (AppointmentAnswer.Refused (refusal noSuchNumber))
 
-unfoldable pub entryFrom : List ℕ → ℕ → ℕ → CalendarAnswer → EntryAnswer
-entryFrom f d k (CalendarAnswer.Accepted n) =
-    ifLt lastDay d (EntryAnswer.Refused (refusal outOfRange)) (entryOf f k (placesOn f d))
-entryFrom f d k (CalendarAnswer.Refused e) = EntryAnswer.Refused e
+unfoldable pub appointmentFrom : List ℕ → ℕ → ℕ → CalendarAnswer → AppointmentAnswer
+appointmentFrom f d k (CalendarAnswer.Accepted n) =
+    ifLt lastDay d (AppointmentAnswer.Refused (refusal outOfRange)) (appointmentAmong f k (placesOn f d))
+appointmentFrom f d k (CalendarAnswer.Refused e) = AppointmentAnswer.Refused e
 
-unfoldable pub entryAnswer : List ℕ → ℕ → ℕ → EntryAnswer
-entryAnswer f d k = entryFrom f d k (calendarOf f)
+unfoldable pub appointmentAnswer : List ℕ → ℕ → ℕ → AppointmentAnswer
+appointmentAnswer f d k = appointmentFrom f d k (calendarOf f)
 
 -- its text as a stretch of the file; nothing where there is no such appointment
-unfoldable pub appointmentTextIn : List ℕ → EntryAnswer → List ℕ
-appointmentTextIn f (EntryAnswer.Entry e) = stretchBytes f (e .text)
-appointmentTextIn f (EntryAnswer.Refused r) = []
+unfoldable pub appointmentTextIn : List ℕ → AppointmentAnswer → List ℕ
+appointmentTextIn f (AppointmentAnswer.Appointment e) = stretchBytes f (e .text)
+appointmentTextIn f (AppointmentAnswer.Refused r) = []

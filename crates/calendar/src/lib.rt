@@ -1,5 +1,5 @@
 // The Windows Calendar file: reading it, with document 01's refusals 20 to 24, and what it shows.
-mod entries;
+mod appointments;
 mod head;
 mod lists;
 pub mod reading;

@@ -1,17 +1,17 @@
 // What an accepted Calendar file shows: the descriptors by number, and the appointments of a day. Each call gives the file's own refusal first.
 ghost use mathlib.Core.Path.{_≡_};
-ghost use Rattle.calendar.specs.Shown.{descriptorFrom, descriptorAnswer, countFrom, countAnswer, entryFrom, entryAnswer, appointmentTextIn};
+ghost use Rattle.calendar.specs.Shown.{descriptorFrom, descriptorAnswer, countFrom, countAnswer, appointmentFrom, appointmentAnswer, appointmentTextIn};
 ghost use Rattle.calendar.specs.Invariants.{AcceptedFile};
 ghost use Rattle.calendar.specs.Invariants.{ListOn};
-use crate::entries::count_list;
-use crate::entries::entry_in;
+use crate::appointments::appointment_in;
+use crate::appointments::count_list;
 use crate::lists::span_of;
 use crate::reading::read_calendar;
+use crate::types::AppointmentAnswer;
 use crate::types::CalendarAnswer;
 use crate::types::CountAnswer;
 use crate::types::Descriptor;
 use crate::types::DescriptorAnswer;
-use crate::types::EntryAnswer;
 use crate::types::Span;
 use days::types::CalendarDay;
 use days::types::LAST_DAY;
@@ -93,38 +93,38 @@ pub fn appointment_count(file: &[u8], day: CalendarDay) -> CountAnswer
     }
 }
 
-fn entry_on(file: &[u8], day: CalendarDay, k: usize, n: usize) -> EntryAnswer
+fn appointment_on(file: &[u8], day: CalendarDay, k: usize, n: usize) -> AppointmentAnswer
     requires { ⌜ AcceptedFile (now file) n ⌝ }
-    ensures { λ r. ⌜ r ≡ entryFrom (now (file .entry)) (day .0) k (CalendarAnswer.Accepted n) ⌝ }
+    ensures { λ r. ⌜ r ≡ appointmentFrom (now (file .entry)) (day .0) k (CalendarAnswer.Accepted n) ⌝ }
 {
     if LAST_DAY < day.0 {
-        return EntryAnswer::Refused(Refusal {
+        return AppointmentAnswer::Refused(Refusal {
             number: OUT_OF_RANGE,
             place: 0,
         });
     }
     let span = span_on(file, day.0, n);
-    entry_in(file, span.from, span.end, k)
+    appointment_in(file, span.from, span.end, k)
 }
 
 // The k-th appointment of a day.
-pub fn appointment_at(file: &[u8], day: CalendarDay, k: usize) -> EntryAnswer
-    ensures { λ r. ⌜ r ≡ entryAnswer (now (file .entry)) (day .0) k ⌝ }
+pub fn appointment_at(file: &[u8], day: CalendarDay, k: usize) -> AppointmentAnswer
+    ensures { λ r. ⌜ r ≡ appointmentAnswer (now (file .entry)) (day .0) k ⌝ }
 {
     let a = read_calendar(file);
     match a {
-        CalendarAnswer::Accepted(n) => entry_on(file, day, k, n),
-        CalendarAnswer::Refused(e) => EntryAnswer::Refused(e),
+        CalendarAnswer::Accepted(n) => appointment_on(file, day, k, n),
+        CalendarAnswer::Refused(e) => AppointmentAnswer::Refused(e),
     }
 }
 
 // Its text, as that stretch of the caller's file; nothing where there is no such appointment.
 pub fn text_at(file: &[u8], day: CalendarDay, k: usize) -> &[u8]
-    ensures { λ r. ⌜ now r ≡ appointmentTextIn (now (file .entry)) (entryAnswer (now (file .entry)) (day .0) k) ⌝ }
+    ensures { λ r. ⌜ now r ≡ appointmentTextIn (now (file .entry)) (appointmentAnswer (now (file .entry)) (day .0) k) ⌝ }
 {
     let a = appointment_at(file, day, k);
     match a {
-        EntryAnswer::Entry(e) => part(file, e.text.place, e.text.length),
-        EntryAnswer::Refused(_) => &file[..0],
+        AppointmentAnswer::Appointment(e) => part(file, e.text.place, e.text.length),
+        AppointmentAnswer::Refused(_) => &file[..0],
     }
 }

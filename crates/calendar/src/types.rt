@@ -40,14 +40,14 @@ pub enum CountAnswer {
 }
 
 // An appointment as read: its minute, its flags, and where its text lies in the file.
-pub struct Entry {
+pub struct StoredAppointment {
     pub minute: Minute,
     pub flags: u16,
     pub text: Stretch,
 }
 
-pub enum EntryAnswer {
-    Entry(Entry),
+pub enum AppointmentAnswer {
+    Appointment(StoredAppointment),
     Refused(Refusal),
 }
 

@@ -3,7 +3,7 @@
 use Rattle.calendar.specs.declared.types.CalendarAnswer.{CalendarAnswer}
 use Rattle.calendar.specs.declared.types.DescriptorAnswer.{DescriptorAnswer}
 use Rattle.calendar.specs.declared.types.CountAnswer.{CountAnswer}
-use Rattle.calendar.specs.declared.types.EntryAnswer.{EntryAnswer}
+use Rattle.calendar.specs.declared.types.AppointmentAnswer.{AppointmentAnswer}
 use Rattle.export.specs.declared.answers.ExportAnswer.{ExportAnswer}
 use Rattle.marshal.specs.declared.page_answers.CountOut.{CountOut}
 use Rattle.marshal.specs.declared.calendar_answers.DescriptorOut.{DescriptorOut}
@@ -21,8 +21,8 @@ unfoldable pub appointmentsOut : CountAnswer → CountOut
 appointmentsOut (CountAnswer.Count n) = record { number = 0; place = 0; count = n }
 appointmentsOut (CountAnswer.Refused e) = record { number = e .number; place = e .place; count = 0 }
 
-unfoldable pub appointmentOut : EntryAnswer → AppointmentOut
-appointmentOut (EntryAnswer.Entry e) =
+unfoldable pub appointmentOut : AppointmentAnswer → AppointmentOut
+appointmentOut (AppointmentAnswer.Appointment e) =
     record {
       number = 0;
       place = 0;
@@ -31,7 +31,7 @@ appointmentOut (EntryAnswer.Entry e) =
       minute = e .minute .0;
       flags = e .flags;
     }
-appointmentOut (EntryAnswer.Refused e) =
+appointmentOut (AppointmentAnswer.Refused e) =
     record { number = e .number; place = e .place; «text_at» = 0; «text_length» = 0; minute = 0; flags = 0 }
 
 -- the bytes written

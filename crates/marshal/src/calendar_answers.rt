@@ -2,10 +2,10 @@
 ghost use mathlib.Core.Path.{_≡_};
 ghost use Rattle.marshal.specs.CalendarAnswers.{daysOut, descriptorOut, appointmentsOut, appointmentOut, exportOut};
 use crate::page_answers::CountOut;
+use calendar::types::AppointmentAnswer;
 use calendar::types::CalendarAnswer;
 use calendar::types::CountAnswer;
 use calendar::types::DescriptorAnswer;
-use calendar::types::EntryAnswer;
 use export::answers::ExportAnswer;
 
 #[repr(C)]
@@ -79,11 +79,11 @@ pub fn appointments_out(a: CountAnswer) -> CountOut
     }
 }
 
-pub fn appointment_out(a: EntryAnswer) -> AppointmentOut
+pub fn appointment_out(a: AppointmentAnswer) -> AppointmentOut
     ensures { λ r. ⌜ r ≡ appointmentOut a ⌝ }
 {
     match a {
-        EntryAnswer::Entry(e) => AppointmentOut {
+        AppointmentAnswer::Appointment(e) => AppointmentOut {
             number: 0,
             place: 0,
             text_at: e.text.place,
@@ -91,7 +91,7 @@ pub fn appointment_out(a: EntryAnswer) -> AppointmentOut
             minute: e.minute.0,
             flags: e.flags,
         },
-        EntryAnswer::Refused(e) => AppointmentOut {
+        AppointmentAnswer::Refused(e) => AppointmentOut {
             number: e.number,
             place: e.place,
             text_at: 0,

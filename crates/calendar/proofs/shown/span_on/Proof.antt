@@ -7,7 +7,7 @@ use Rattle.prelude.specs.declared.refusals.Verdict.{Verdict}
 use Rattle.calendar.specs.Reader.{dayVerdict, daysFrom}
 use Rattle.calendar.specs.Laws.Reader.{day-fine, days-fine}
 use Rattle.calendar.specs.Shown.{placesFrom, placesOn}
-use Rattle.calendar.specs.Laws.Entries.{places-none, places-here, places-on, list-here, list-none}
+use Rattle.calendar.specs.Laws.Appointments.{places-none, places-here, places-on, list-here, list-none}
 use native.Mathlib.Omega.{arith}
 use Rattle.calendar.proofs.shown.span_on.Statement.{statement}
 use Rattle.calendar.proofs.shown.span_on.Tie as tie

@@ -1,9 +1,9 @@
--- `entry_at` meets its contract: its fields are what its callees give.
+-- `shown_at` meets its contract: its fields are what its callees give.
 -- Assumes nothing.
 use Rattle.calendar.specs.Shown.{shownAt}
 use borrow.Author.Needs.{needs}
-use Rattle.calendar.proofs.entries.entry_at.Statement.{statement}
-use Rattle.calendar.proofs.entries.entry_at.Tie as tie
+use Rattle.calendar.proofs.appointments.shown_at.Statement.{statement}
+use Rattle.calendar.proofs.appointments.shown_at.Tie as tie
 
 add-word-in : tie.Need-add-word-in
 add-word-in c = search needs
@@ -33,8 +33,8 @@ returns : tie.Need-returns
 unfolding shownAt
 returns c = rw (c .before .before .before .word-in .ensures, c .before .wide .ensures .0, c .size-at .ensures .0)
 
-pub entry-at-spec : {M : Type 1} → statement M
-entry-at-spec =
+pub shown-at-spec : {M : Type 1} → statement M
+shown-at-spec =
     tie.close
     (tie.spec
     add-word-in

@@ -2,11 +2,11 @@
 ghost use mathlib.Core.Path.{_≡_};
 ghost use lib.ListN.{length};
 ghost use Rattle.calendar.specs.Lists.{listWalkFrom, placesInList};
-ghost use Rattle.calendar.specs.Shown.{shownAt, entryOf};
-ghost use Rattle.calendar.specs.Invariants.{EntryIn, FineList};
+ghost use Rattle.calendar.specs.Shown.{shownAt, appointmentAmong};
+ghost use Rattle.calendar.specs.Invariants.{AppointmentIn, FineList};
 use crate::lists::size_at;
-use crate::types::Entry;
-use crate::types::EntryAnswer;
+use crate::types::AppointmentAnswer;
+use crate::types::StoredAppointment;
 use days::types::Minute;
 use prelude::numbers::wide;
 use prelude::refusals::NO_SUCH_NUMBER;
@@ -15,14 +15,14 @@ use prelude::slices::Stretch;
 use prelude::slices::word_in;
 
 // The appointment at a place.
-fn entry_at(file: &[u8], at: usize) -> Entry
-    requires { ⌜ EntryIn (now file) at ⌝ }
+fn shown_at(file: &[u8], at: usize) -> StoredAppointment
+    requires { ⌜ AppointmentIn (now file) at ⌝ }
     ensures { λ r. ⌜ r ≡ shownAt (now (file .entry)) at ⌝ }
 {
     let minute = word_in(file, at + 2);
     let flags = wide(file[at + 1]);
     let size = size_at(file, at);
-    Entry {
+    StoredAppointment {
         minute: Minute(minute),
         flags,
         text: Stretch {
@@ -47,20 +47,20 @@ pub fn count_list(file: &[u8], from: usize, end: usize) -> usize
 }
 
 // The k-th appointment of a list, or 10.
-pub fn entry_in(file: &[u8], from: usize, end: usize, k: usize) -> EntryAnswer
+pub fn appointment_in(file: &[u8], from: usize, end: usize, k: usize) -> AppointmentAnswer
     requires { ⌜ FineList (now file) end from ⌝ }
-    ensures { λ r. ⌜ r ≡ entryOf (now (file .entry)) k (placesInList (listWalkFrom (now (file .entry)) end 0 from)) ⌝ }
+    ensures { λ r. ⌜ r ≡ appointmentAmong (now (file .entry)) k (placesInList (listWalkFrom (now (file .entry)) end 0 from)) ⌝ }
 {
     let mut i: usize = 0;
     let mut at = from;
     while at < end {
         if i == k {
-            return EntryAnswer::Entry(entry_at(file, at));
+            return AppointmentAnswer::Appointment(shown_at(file, at));
         }
         at += size_at(file, at);
         i += 1;
     }
-    EntryAnswer::Refused(Refusal {
+    AppointmentAnswer::Refused(Refusal {
         number: NO_SUCH_NUMBER,
         place: 0,
     })

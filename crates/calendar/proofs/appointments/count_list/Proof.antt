@@ -4,10 +4,10 @@ use Prim.Native.Nat.{_-_, _≤_}
 use mathlib.Core.Path.{sym}
 use native.Mathlib.Numerals.{add-one}
 use Rattle.calendar.specs.Lists.{listWalkFrom, placesInList}
-use Rattle.calendar.specs.Laws.Entries.{ListCursor, cursor-first, ListAhead, cursor-ahead, cursor-done}
+use Rattle.calendar.specs.Laws.Appointments.{ListCursor, cursor-first, ListAhead, cursor-ahead, cursor-done}
 use native.Mathlib.Omega.{arith}
-use Rattle.calendar.proofs.entries.count_list.Statement.{statement}
-use Rattle.calendar.proofs.entries.count_list.Tie as tie
+use Rattle.calendar.proofs.appointments.count_list.Statement.{statement}
+use Rattle.calendar.proofs.appointments.count_list.Tie as tie
 
 abbrev Inv-loop : tie.InvT-loop
 Inv-loop file from end n₀ at₀ n at = ListCursor file end (placesInList (listWalkFrom file end 0 from)) n at × (n ≤ at)
