@@ -2,11 +2,11 @@
 -- Assumes nothing.
 use Prim.Native.Nat.{ℕ, zero, suc, _+_, _-_, _*_, _/_, _%_}
 use mathlib.Core.Path.{_≡_}
-use mathlib.Core.Bool.{true, false}
+use mathlib.Core.Bool.{Bool, true, false}
 use mathlib.Core.List.{List, [], _∷_, _++_}
 use lib.ListN.{length}
 use Rattle.prelude.specs.Choice.{ifLt, ifEq}
-use Rattle.prelude.specs.Bytes.{le16}
+use Rattle.prelude.specs.Bytes.{bit, le16}
 use Rattle.sorting.specs.Totals.{total}
 use Rattle.calendar.specs.File.{Appointment, Day, zeros, units, appointmentsBytes, alarms, firstUnit, fileOf, lastBlock}
 use Rattle.calendar.specs.declared.types.CalendarSettings.{CalendarSettings}
@@ -23,6 +23,10 @@ measureOf s ds =
       «past_last_block» = pastLastBlock ds;
     }
 
+-- a day's appointments as one sum: how many they are, their alarms, and their bytes
+abbrev pub sumOf : ℕ → ℕ → ℕ → ℕ
+sumOf count alarm bytes = count * 4294967296 + alarm * 65536 + bytes
+
 -- a sum's number of appointments, of alarms, and of bytes
 abbrev pub countIn : ℕ → ℕ
 countIn s = s / 4294967296
@@ -32,6 +36,14 @@ alarmsIn s = s / 65536 % 65536
 
 abbrev pub bytesIn : ℕ → ℕ
 bytesIn s = s % 65536
+
+-- one appointment of a text's length, with an alarm or without, as a sum
+abbrev pub weightOf : Bool → ℕ → ℕ
+weightOf alarm n = sumOf 1 (bit alarm) (5 + n)
+
+-- no appointment weighs as much as two
+abbrev pub mostWeight : ℕ
+mostWeight = sumOf 2 0 0
 
 pub record Sum (s : ℕ) (al : List Appointment) : Type 0 where
   pub count : countIn s ≡ length al

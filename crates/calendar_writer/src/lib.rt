@@ -3,4 +3,5 @@ pub mod bytes;
 pub mod measuring;
 pub mod placing;
 pub mod puts;
+pub mod sums;
 pub mod types;

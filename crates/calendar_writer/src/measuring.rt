@@ -7,6 +7,8 @@ ghost use Rattle.prelude.specs.Choice.{ifLt};
 ghost use Rattle.calendar.specs.File.{firstUnit, lastBlock};
 ghost use Rattle.calendar_writer.specs.Sums.{unitsFor, measured, sumUp};
 ghost use Rattle.calendar_writer.specs.DayLists.{mostDays};
+use crate::sums::bytes_in;
+use crate::sums::count_in;
 use crate::types::Measure;
 use calendar::types::LAST_BLOCK;
 
@@ -14,7 +16,7 @@ use calendar::types::LAST_BLOCK;
 pub fn units_for(sum: u64) -> usize
     ensures { λ r. ⌜ r ≡ unitsFor sum ⌝ }
 {
-    ((sum % 65536 + 73) / 64) as usize
+    (bytes_in(sum) + 73) / 64
 }
 
 // The unit at which the first block stands behind n descriptors.
@@ -66,7 +68,7 @@ pub fn measure(sums: &[u64]) -> Measure
             n += 1;
             last = units;
             units += units_for(sum);
-            appointments += (sum / 4294967296) as usize;
+            appointments += count_in(sum);
         }
     }
     measure_of(n, units, last, appointments)

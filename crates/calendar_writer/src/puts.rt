@@ -14,6 +14,8 @@ use crate::bytes::descriptor_of;
 use crate::bytes::head_mark;
 use crate::bytes::settings_words;
 use crate::measuring::units_for;
+use crate::sums::alarms_in;
+use crate::sums::bytes_in;
 use calendar::types::CalendarSettings;
 use prelude::slices::copy_in;
 
@@ -67,7 +69,7 @@ pub fn put_table(out: &mut [u8], at: usize, first: usize, sums: &[u64], unit: us
         let day = first + k;
         k += 1;
         if sum != 0 {
-            pos = put_descriptor(out, pos, day, (sum / 65536 % 65536) as usize, u);
+            pos = put_descriptor(out, pos, day, alarms_in(sum), u);
             u += units_for(sum);
         }
     }
@@ -83,7 +85,7 @@ pub fn put_blank(out: &mut [u8], at: usize, day: usize, sum: u64) -> usize
     if sum == 0 {
         return at;
     }
-    let head = block_head(day, (sum % 65536) as usize);
+    let head = block_head(day, bytes_in(sum));
     let rest = copy_in(out, at, &head);
     put_zeros(out, rest, 64 * units_for(sum) - 10)
 }

@@ -6,19 +6,19 @@ use mathlib.Core.Path.{_≡_}
 use mathlib.Core.Bool.{Bool, true, false}
 use mathlib.Core.List.{List, map}
 use lib.ListN.{length, getD, take}
-use Rattle.prelude.specs.Bytes.{bit}
 use Rattle.prelude.specs.Choice.{ifB}
 use Rattle.sorting.specs.Keep.{keep}
 use Rattle.sorting.specs.Totals.{total}
 use Rattle.texts.specs.Notes.{mostText}
 use Rattle.records.specs.Ranges.{recordOk}
-use Rattle.book.specs.Books.{placesOf, entryAt, mostBookBytes}
+use Rattle.book.specs.Books.{placesOf, entryAt, mostBookBytes, mostRecords}
 use Rattle.book.specs.Settings.{firstRecord}
 use Rattle.falls.specs.declared.types.ShortMonth.{ShortMonth}
 use Rattle.occurrences.specs.Rules.{ruleOf, ruleShows}
 use Rattle.pages.specs.Pages.{Numbered, numbered, recordTimes}
 use Rattle.pages.specs.Codes.{decode}
 use Rattle.calendar.specs.File.{Appointment}
+use Rattle.calendar_writer.specs.Sums.{weightOf, mostWeight}
 use Rattle.export.specs.Export.{appointmentOf}
 
 -- no number of a list is above n
@@ -51,9 +51,13 @@ marked c days k x = ruleShows c (ruleOf (x .entry .«record»)) (getD days k 0)
 abbrev pub keptIn : (ℕ → Numbered → Bool) → ℕ → Numbered → Bool
 keptIn mark n x = someDay (λ k. mark k x) n
 
--- one appointment, its alarm, its bytes, as a sum
+-- a record's appointment as a sum
 abbrev pub weighs : Numbered → ℕ
-weighs x = 4294967296 + bit (recordTimes x .alarm) * 65536 + (5 + x .entry .text .length)
+weighs x = weightOf (recordTimes x .alarm) (x .entry .text .length)
+
+-- no day's sum is above that of all records of the longest book
+abbrev pub mostSum : ℕ
+mostSum = mostRecords * mostWeight
 
 -- the sums of a span's days: of each the records that are marked on it
 pub record Weighed (f : List ℕ) (mark : ℕ → Numbered → Bool) (days sums : List ℕ) : Type 0 where

@@ -1,22 +1,22 @@
 // One pass over the book: the records that show on a day of the span, as codes, and the sum of each day.
 ghost use mathlib.Core.Path.{_≡_};
 ghost use mathlib.Core.List.{map};
-ghost use Prim.Native.Nat.{_+_, _*_, _<_, _≤_};
+ghost use Prim.Native.Nat.{_<_, _≤_};
 ghost use lib.ListN.{length, getD, take};
-ghost use Rattle.prelude.specs.Bytes.{bit};
 ghost use Rattle.sorting.specs.Keep.{keep};
 ghost use Rattle.book.specs.Books.{entryAt, mostBookBytes};
 ghost use Rattle.pages.specs.Pages.{numbered};
 ghost use Rattle.pages.specs.Invariants.{recordAt};
 ghost use Rattle.pages.specs.Codes.{code};
 ghost use Rattle.day_steps.specs.Codes.{Spanned, Days};
-ghost use Rattle.texts.specs.Notes.{mostText};
 ghost use Rattle.occurrences.specs.Rules.{ruleOf, ruleShows};
 ghost use Rattle.occurrences.specs.Next.{Next};
 ghost use Rattle.calendar_writer.specs.Scatter.{Added};
-ghost use Rattle.export.specs.Passes.{AtMost, CountedBook, Sound, marked, keptIn, weighs, Weighed};
+ghost use Rattle.calendar_writer.specs.Sums.{mostWeight};
+ghost use Rattle.export.specs.Passes.{AtMost, CountedBook, Sound, marked, keptIn, weighs, mostSum, Weighed};
 use book::entries::next_place;
 use book::settings::FIRST_RECORD;
+use calendar_writer::sums::weight_of;
 use falls::types::ShortMonth;
 use occurrences::hits::next_after;
 use occurrences::hits::next_from;
@@ -41,24 +41,13 @@ pub fn rule_at(file: &[u8], at: usize) -> Rule
     rule_of(t, p)
 }
 
-// One appointment of a text's length, with its alarm or without, as a sum.
-fn weight_of(alarm: bool, length: usize) -> u64
-    requires { ⌜ length ≤ mostText ⌝ }
-    ensures { λ r. ⌜ r ≡ 4294967296 + bit alarm * 65536 + (5 + length) ⌝ }
-{
-    if alarm {
-        return 4295032832 + (5 + length as u64);
-    }
-    4294967296 + (5 + length as u64)
-}
-
 // Adds a weight to the sum of each day on which a rule shows; from is the first of them.
 fn add_hits(c: ShortMonth, r: Rule, days: &[u32], from: usize, w: u64, sums: &mut [u64])
     requires { ⌜ Days (now days) ⌝ }
     requires { ⌜ length (now sums) ≡ length (now days) ⌝ }
     requires { ⌜ Next (λ k. ruleShows c r (getD (now days) k 0)) 0 (length (now days)) from ⌝ }
-    requires { ⌜ w ≤ 8589934592 ⌝ }
-    requires { ⌜ AtMost 40192304123904 (now sums) ⌝ }
+    requires { ⌜ w ≤ mostWeight ⌝ }
+    requires { ⌜ AtMost mostSum (now sums) ⌝ }
     ensures { λ _.
         ⌜ Added (λ k. ruleShows c r (getD (now (days .entry)) k 0)) w (length (now (days .entry))) (now (sums .entry)) (now (sums .exit)) ⌝ }
 {
@@ -87,7 +76,7 @@ fn take_in(
     requires { ⌜ Days (now days) ⌝ }
     requires { ⌜ length (now sums) ≡ length (now days) ⌝ }
     requires { ⌜ Next (λ k. ruleShows c r (getD (now days) k 0)) 0 (length (now days)) from ⌝ }
-    requires { ⌜ AtMost 40192304123904 (now sums) ⌝ }
+    requires { ⌜ AtMost mostSum (now sums) ⌝ }
     ensures { λ z. ⌜ z ≡ code (recordAt (now (file .entry)) number at) ⌝ }
     ensures { λ _.
         ⌜ Added (λ k. ruleShows c r (getD (now (days .entry)) k 0)) (weighs (recordAt (now (file .entry)) number at)) (length (now (days .entry))) (now (sums .entry)) (now (sums .exit)) ⌝ }

@@ -1,6 +1,6 @@
 -- The sums of a span give the measure, the table and the blocks of its days.
 -- Assumes nothing.
-use Prim.Native.Nat.{ℕ, suc, _+_, _-_, _*_, _<_}
+use Prim.Native.Nat.{ℕ, suc, _+_, _-_, _*_, _<_, _≤_}
 use mathlib.Core.Path.{_≡_, refl, sym, ap, _∙_}
 use mathlib.Core.List.{List, [], _∷_, _++_, append-assoc}
 use native.Mathlib.Omega.{arith}
@@ -16,8 +16,12 @@ use Rattle.calendar.specs.declared.types.CalendarSettings.{CalendarSettings}
 use Rattle.calendar_writer.specs.DayLists.{addDay, daysWith}
 use Rattle.calendar_writer.specs.Laws.Measure.{unitsOf, file-units, beforeLast, past-last}
 use Rattle.calendar_writer.specs.Laws.Spans.{before-none, before-some, days-none, days-next}
-use Rattle.calendar_writer.specs.Sums.{measureOf, countIn, alarmsIn, Sum, Sums, unitsFor, measured, sumUp, descriptorOf, sumTable, blockHead, rowOf, rows}
+use Rattle.calendar_writer.specs.Sums.{measureOf, sumOf, countIn, alarmsIn, bytesIn, Sum, Sums, unitsFor, measured, sumUp, descriptorOf, sumTable, blockHead, rowOf, rows}
 use Rattle.calendar_writer.specs.declared.types.Measure.{Measure}
+
+-- what a sum holds, where no part runs into the next
+pub sum-parts : {s : ℕ} (n a b : ℕ) → s ≡ sumOf n a b → a ≤ b → b ≤ 65535 → (countIn s ≡ n) × (alarmsIn s ≡ a) × (bytesIn s ≡ b)
+sum-parts n a b e l h = (omega arith, omega arith, omega arith)
 
 -- the sums by place
 pub sums-at : (list : ℕ → List Appointment) (d : ℕ) (ss : List ℕ) → ((k : ℕ) → k < length ss → Sum (getD ss k 0) (list (d + k))) → Sums list d ss

@@ -1,6 +1,6 @@
 -- The records of an accepted book on the days of a span: what the passes keep and weigh is what the export shows.
 -- Assumes nothing.
-use Prim.Native.Nat.{ℕ, zero, suc, _+_, _*_, _/_, _%_, _<_, _≤_}
+use Prim.Native.Nat.{ℕ, zero, suc, _+_, _<_, _≤_}
 use mathlib.Core.Path.{_≡_, refl, sym, ap, _∙_}
 use mathlib.Core.Bool.{Bool, true, false, true≢false}
 use mathlib.Core.List.{List, [], _∷_, List·Memᴰ, List·Memᴰ·head, List·Memᴰ·tail}
@@ -27,7 +27,8 @@ use Rattle.falls.specs.declared.types.ShortMonth.{ShortMonth}
 use Rattle.occurrences.specs.Laws.Rules.{rule-falls}
 use Rattle.pages.specs.Pages.{Numbered, numbered, recordTimes, startOf, pageOf}
 use Rattle.pages.specs.Laws.Decoding.{Placed, code-placed}
-use Rattle.calendar_writer.specs.Sums.{Sum}
+use Rattle.calendar_writer.specs.Sums.{sumOf, Sum}
+use Rattle.calendar_writer.specs.Laws.Sums.{sum-parts}
 use Rattle.export.specs.Export.{recordText, appointmentsFor, showsUnder}
 use Rattle.export.specs.Invariants.{sizeOf, GoodBook, MarksShown}
 use Rattle.export.specs.Laws.Appointments.{length-for, bytes-for, alarms-for}
@@ -114,7 +115,7 @@ kept-page f mark n k l =
     ∙ ap (sort startOf) (keep-keep (mark k) (keptIn mark n) (numbered f) (λ x h. some-yes (λ j. mark j x) n k l h))
 
 -- what a sum of weights holds
-weights : (f : List ℕ) (xs : List Numbered) → total (λ x. 4294967296 + bit (recordTimes x .alarm) * 65536 + sizeOf f x) xs ≡ length xs * 4294967296 + total (λ x. bit (recordTimes x .alarm)) xs * 65536 + total (sizeOf f) xs
+weights : (f : List ℕ) (xs : List Numbered) → total (λ x. sumOf 1 (bit (recordTimes x .alarm)) (sizeOf f x)) xs ≡ sumOf (length xs) (total (λ x. bit (recordTimes x .alarm)) xs) (total (sizeOf f) xs)
 unfolding total
 weights f [] = refl
 weights f (x ∷ xs) = omega (arith, weights f xs)
@@ -123,9 +124,6 @@ few-alarms : (f : List ℕ) (xs : List Numbered) → total (λ x. bit (recordTim
 unfolding total
 few-alarms f [] = omega arith
 few-alarms f (x ∷ xs) = omega (arith, few-alarms f xs, bit-most (recordTimes x .alarm))
-
-parts-of : (s n a b : ℕ) → s ≡ n * 4294967296 + a * 65536 + b → a ≤ b → b ≤ 65535 → (s / 4294967296 ≡ n) × (s / 65536 % 65536 ≡ a) × (s % 65536 ≡ b)
-parts-of s n a b e l h = (omega arith, omega arith, omega arith)
 
 module _ {f : List ℕ} {shows : ℕ → Numbered → Bool} {first : ℕ} {mark : ℕ → Numbered → Bool} {days : List ℕ} (marks : MarksShown f shows first mark days) where
   pub same-kept : (k : ℕ) → k < length days → keep (mark k) (numbered f) ≡ keep (shows (first + k)) (numbered f)
@@ -142,12 +140,12 @@ module _ {f : List ℕ} {shows : ℕ → Numbered → Bool} {first : ℕ} {mark 
   weighed-sum b good interval {sums} w k l =
       let d = first + k in
       let xs = keep (shows d) (numbered f) in
-      let same : (x : Numbered) → List·Memᴰ x xs → weighs x ≡ 4294967296 + bit (recordTimes x .alarm) * 65536 + sizeOf f x =
+      let same : (x : Numbered) → List·Memᴰ x xs → weighs x ≡ sumOf 1 (bit (recordTimes x .alarm)) (sizeOf f x) =
       λ x m. rw (text-long b (book-whole b (keep-member (shows d) m .0))) in
-      let e : getD sums k 0 ≡ length xs * 4294967296 + total (λ x. bit (recordTimes x .alarm)) xs * 65536 + total (sizeOf f) xs =
+      let e : getD sums k 0 ≡ sumOf (length xs) (total (λ x. bit (recordTimes x .alarm)) xs) (total (sizeOf f) xs) =
       w .each k l ∙ ap (total weighs) (same-kept k l) ∙ total-same weighs _ xs same ∙ weights f xs in
       let most : total (sizeOf f) xs ≤ 65535 = omega (arith, total-keep (sizeOf f) (shows d) (numbered f), good .sum) in
-      let p = parts-of (getD sums k 0) (length xs) (total (λ x. bit (recordTimes x .alarm)) xs) (total (sizeOf f) xs) e (few-alarms f xs) most in
+      let p = sum-parts (length xs) (total (λ x. bit (recordTimes x .alarm)) xs) (total (sizeOf f) xs) e (few-alarms f xs) most in
       record {
         count = p .0 ∙ sym (length-for shows f interval d);
         alarm = p .1 ∙ sym (alarms-for shows f interval d);

@@ -24,6 +24,7 @@ use Rattle.pages.specs.Laws.Codes.{codes-push, none-left}
 use Rattle.pages.specs.Laws.Pages.{numberedAt, numbered-first, Turn, record-turn, turn-yes, turn-no, turn-end}
 use Rattle.pages.specs.Invariants.{recordAt}
 use Rattle.calendar_writer.specs.Scatter.{Added}
+use Rattle.calendar_writer.specs.Sums.{mostWeight}
 use Rattle.export.specs.Passes.{AtMost, CountedBook, Sound, keptIn, weighs, Weighed}
 use Rattle.export.specs.Laws.Books.{some-yes, some-no, sound-at}
 
@@ -32,7 +33,7 @@ pub record Collecting (f : List ℕ) (mark : ℕ → Numbered → Bool) (days : 
   pub cursor : Cursor f n at
   pub few : count ≤ n
   pub long : length sums ≡ length days
-  pub below : AtMost (n * 8589934592) sums
+  pub below : AtMost (n * mostWeight) sums
   pub codes-so : map code (keep (keptIn mark (length days)) (numbered f)) ≡ take count codes ++ map code (keep (keptIn mark (length days)) (numberedAt f n))
   pub sums-so : (k : ℕ) → k < length days → total weighs (keep (mark k) (numbered f)) ≡ getD sums k 0 + total weighs (keep (mark k) (numberedAt f n))
 
@@ -54,7 +55,7 @@ if-most : (t : Bool) (w : ℕ) → ifB t w 0 ≤ w
 if-most t w = b-elim (λ z. z ≤ w) t w 0 (λ _. omega arith) (λ _. omega arith)
 
 -- a record's weight
-weigh-most : (f : List ℕ) (n at : ℕ) → Sound f at → weighs (recordAt f n at) ≤ 8589934592
+weigh-most : (f : List ℕ) (n at : ℕ) → Sound f at → weighs (recordAt f n at) ≤ mostWeight
 weigh-most f n at s = omega (arith, bit-most (recordTimes (recordAt f n at) .alarm), s .short)
 
 module _ {f : List ℕ} {mark : ℕ → Numbered → Bool} {days : List ℕ} {n at count : ℕ} {codes sums : List ℕ} (g : Collecting f mark days n at count codes sums) where

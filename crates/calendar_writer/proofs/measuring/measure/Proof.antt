@@ -1,15 +1,15 @@
 -- `measure` meets its contract: what is counted so far and what is left of the sums make up the whole.
 -- Assumes nothing.
-use Prim.Native.Nat.{ℕ, _+_, _-_, _*_, _/_, _<_, _≤_}
-use mathlib.Core.Path.{_≡_, refl, sym, ap, _∙_}
+use Prim.Native.Nat.{ℕ, _+_, _-_, _*_, _<_, _≤_}
+use mathlib.Core.Path.{_≡_, refl, sym, _∙_}
 use native.Mathlib.Omega.{arith}
-use lib.ListN.{length, getD, drop}
+use lib.ListN.{length, drop}
 use borrow.Author.Needs.{needs}
 use Rattle.calendar_writer.specs.Sums.{countIn, sumUp}
+use Rattle.calendar_writer.specs.DayLists.{mostDays}
 use Rattle.calendar_writer.specs.Laws.Turns.{sum-end, sum-none, sum-some}
 use Rattle.calendar_writer.proofs.measuring.measure.Statement.{statement}
 use Rattle.calendar_writer.proofs.measuring.measure.Tie as tie
-use Rattle.calendar_writer.specs.DayLists.{mostDays}
 
 abbrev Inv-loop : tie.InvT-loop
 Inv-loop sums n₀ units₀ last₀ appointments₀ k₀ n units last appointments k =
@@ -18,7 +18,7 @@ Inv-loop sums n₀ units₀ last₀ appointments₀ k₀ n units last appointmen
 abbrev μ-loop : tie.MeasureT-loop
 μ-loop sums n₀ units₀ last₀ appointments₀ k₀ n units last appointments k = length sums - k
 
-count-fits : (a k s : ℕ) → a ≤ 4294967296 * k → k < mostDays → s < 18446744073709551616 → a + s / 4294967296 < 18446744073709551616
+count-fits : (a k s : ℕ) → a ≤ 4294967296 * k → k < mostDays → s < 18446744073709551616 → a + countIn s < 18446744073709551616
 count-fits a k s h l m = omega arith
 
 loop-holds : tie.Need-loop-holds Inv-loop μ-loop
@@ -42,28 +42,28 @@ units-for-requires c κs = search needs
 add-units : tie.Need-add-units Inv-loop μ-loop
 add-units c = omega arith
 
+count-in-requires : tie.Need-count-in-requires Inv-loop μ-loop
+count-in-requires c κs = search needs
+
 add-appointments : tie.Need-add-appointments Inv-loop μ-loop
 add-appointments c =
-    let l = c .before .before .before .before in
-    record { fits = count-fits (l .loop .appointments) (l .loop .k) _ (l .loop .inv .5) (omega arith) (c .before .before .shared-slice-known2 .given (l .loop .k) .fits) }
+    let l = c .before .before .before .before .before in
+    record { fits = rw (c .count-in .ensures) (count-fits (l .loop .appointments) (l .loop .k) _ (l .loop .inv .5) (omega arith) (c .before .before .before .shared-slice-known2 .given (l .loop .k) .fits)) }
 
 loop-less : tie.Need-loop-less Inv-loop μ-loop
 loop-less c = omega arith
 
 loop-again : tie.Need-loop-again Inv-loop μ-loop
 loop-again c =
-    let l = c .before .before .before .before in
-    let ss = l .before .before .args .sums .now in
-    let s = getD ss (l .loop .k) 0 in
-    let u = c .units-for .ensures in (
-      l .loop .inv .0
-          ∙ sum-some ss (l .loop .k) (l .loop .n) (l .loop .units) (l .loop .last) (l .loop .appointments) (omega arith) (c .before .if1 .taken)
-          ∙ ap (λ (v : ℕ). sumUp (l .loop .n + 1) (l .loop .units + v) (l .loop .units) (l .loop .appointments + countIn s) (drop (l .loop .k + 1) ss)) (sym u),
+    let l = c .before .before .before .before .before in
+    let ss = l .before .before .args .sums .now in (
+      rw (c .before .units-for .ensures, c .count-in .ensures)
+          (l .loop .inv .0 ∙ sum-some ss (l .loop .k) (l .loop .n) (l .loop .units) (l .loop .last) (l .loop .appointments) (omega arith) (c .before .before .if1 .taken)),
       omega arith,
       omega arith,
+      omega (arith, c .before .units-for .ensures),
       omega arith,
-      omega arith,
-      omega (arith, c .before .before .shared-slice-known2 .given (l .loop .k)),
+      omega (arith, c .count-in .ensures, c .before .before .before .shared-slice-known2 .given (l .loop .k)),
     )
 
 loop-less-2 : tie.Need-loop-less-2 Inv-loop μ-loop
@@ -102,6 +102,7 @@ measure-spec =
     add-n
     units-for-requires
     add-units
+    count-in-requires
     add-appointments
     loop-less
     loop-again

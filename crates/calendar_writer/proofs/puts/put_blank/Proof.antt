@@ -7,17 +7,19 @@ use native.Mathlib.Omega.{arith}
 use Rattle.prelude.specs.Laws.Grown.{Grown, grown-start, grown-space, space-last, grown-more, grown-turn, finish-last}
 use Rattle.prelude.specs.Laws.Splice.{splice-nil}
 use Rattle.calendar.specs.File.{zeros}
-use Rattle.calendar_writer.specs.Sums.{bytesIn, unitsFor, blockHead, rowOf}
+use Rattle.calendar_writer.specs.Sums.{unitsFor, blockHead, rowOf}
 use Rattle.calendar_writer.specs.Laws.Pieces.{blank-none, blank-some}
 use borrow.Author.Needs.{needs}
 use Rattle.calendar_writer.proofs.puts.put_blank.Statement.{statement}
 use Rattle.calendar_writer.proofs.puts.put_blank.Tie as tie
 
 -- before the first piece, and behind it
-g0 : (c : tie.Else1) → let a = c .before .before .args in Grown (a .out .now) (a .at) (rowOf (a .day) (a .sum) []) (a .out .now) (a .at) (blockHead (a .day) (bytesIn (a .sum)) ++ zeros (64 * unitsFor (a .sum) - 10))
-g0 c = grown-turn (blank-some (c .before .before .args .day) (c .if1 .left)) (grown-start (c .before .before .pre))
+g0 : (c : tie.After-bytes-in) → let a = c .before .before .before .args in Grown (a .out .now) (a .at) (rowOf (a .day) (a .sum) []) (a .out .now) (a .at) (blockHead (a .day) (c .bytes-in .result) ++ zeros (64 * unitsFor (a .sum) - 10))
+g0 c =
+    let s = c .before .before .before in
+    rw (c .bytes-in .ensures) (grown-turn (blank-some (s .args .day) (c .before .if1 .left)) (grown-start (s .pre)))
 
-g1 : (c : tie.After-copy-in) → let a = c .before .before .before .before .before .before .args in Grown (a .out .now) (a .at) (rowOf (a .day) (a .sum) []) (c .copy-in .last .0) (c .copy-in .result) (zeros (64 * unitsFor (a .sum) - 10))
+g1 : (c : tie.After-copy-in) → let a = c .before .before .before .before .before .before .before .args in Grown (a .out .now) (a .at) (rowOf (a .day) (a .sum) []) (c .copy-in .last .0) (c .copy-in .result) (zeros (64 * unitsFor (a .sum) - 10))
 g1 c =
     let h = c .before .before .before in
     let e = h .block-head .ensures in
@@ -27,6 +29,9 @@ returns : tie.Need-returns
 returns c =
     let a = c .before .before .args in
     rw (blank-none (a .day) [] (c .if1 .taken)) (omega arith, sym (splice-nil (a .out .now) (a .at)))
+
+bytes-in-requires : tie.Need-bytes-in-requires
+bytes-in-requires c κs = search needs
 
 block-head-requires : tie.Need-block-head-requires
 block-head-requires c κs = search needs
@@ -58,7 +63,7 @@ returns-2 c =
     let u = z .before in
     let g = g1 (u .before .before .before .before) in
     let e = u .units-for .ensures in
-    let s = u .before .before .before .before .before .before .before .before .before .before .args .sum in
+    let s = u .before .before .before .before .before .before .before .before .before .before .before .args .sum in
     finish-last (zeros (64 * unitsFor s - 10)) g (rw e at (z .put-zeros .ensures .0)) (rw e at (z .put-zeros .ensures .1))
 
 pub put-blank-spec : {M : Type 1} → statement M
@@ -66,6 +71,7 @@ put-blank-spec =
     tie.close
     (tie.spec
     returns
+    bytes-in-requires
     block-head-requires
     slice-aggregate-copy-in
     copy-in-requires

@@ -8,7 +8,7 @@ use native.Mathlib.Nat.{add-zero}
 use borrow.Author.Needs.{needs}
 use lib.ListN.{length, getD, drop}
 use Rattle.prelude.specs.Laws.Grown.{Grown, grown-start, grown-space, grown-more, grown-turn, grown-end}
-use Rattle.calendar_writer.specs.Sums.{alarmsIn, unitsFor, descriptorOf, sumTable}
+use Rattle.calendar_writer.specs.Sums.{unitsFor, descriptorOf, sumTable}
 use Rattle.calendar_writer.specs.Laws.Turns.{table-end, table-none, table-some}
 use Rattle.calendar_writer.proofs.puts.put_table.Statement.{statement}
 use Rattle.calendar_writer.proofs.puts.put_table.Tie as tie
@@ -20,11 +20,11 @@ abbrev μ-loop : tie.MeasureT-loop
 μ-loop out₀ at first sums unit pos₀ u₀ k₀ out pos u k = length sums - k
 
 -- a day with appointments: its descriptor comes next
-ahead : (c : tie.Then1 Inv-loop μ-loop) → let l = c .before .before .before in let a = l .before .before .before .args in let s = getD (a .sums .now) (l .loop .k) 0 in Grown (a .out .now) (a .at) (sumTable (a .first) (a .unit) (a .sums .now)) (l .loop .out) (l .loop .pos) (descriptorOf (a .first + l .loop .k) (alarmsIn s) (l .loop .u) ++ sumTable (a .first + l .loop .k + 1) (l .loop .u + unitsFor s) (drop (l .loop .k + 1) (a .sums .now)))
+ahead : (c : tie.After-alarms-in Inv-loop μ-loop) → let l = c .before .before .before .before .before in let a = l .before .before .before .args in let s = getD (a .sums .now) (l .loop .k) 0 in Grown (a .out .now) (a .at) (sumTable (a .first) (a .unit) (a .sums .now)) (l .loop .out) (l .loop .pos) (descriptorOf (a .first + l .loop .k) (c .alarms-in .result) (l .loop .u) ++ sumTable (a .first + l .loop .k + 1) (l .loop .u + unitsFor s) (drop (l .loop .k + 1) (a .sums .now)))
 ahead c =
-    let l = c .before .before .before in
+    let l = c .before .before .before .before .before in
     let a = l .before .before .before .args in
-    grown-turn (table-some (a .sums .now) (l .loop .k) (a .first + l .loop .k) (l .loop .u) (omega arith) (c .if1 .taken)) (l .loop .inv .0)
+    rw (c .alarms-in .ensures) (grown-turn (table-some (a .sums .now) (l .loop .k) (a .first + l .loop .k) (l .loop .u) (omega arith) (c .before .before .if1 .taken)) (l .loop .inv .0))
 
 loop-holds : tie.Need-loop-holds Inv-loop μ-loop
 loop-holds c =
@@ -43,8 +43,11 @@ add-day c = omega arith
 add-k : tie.Need-add-k Inv-loop μ-loop
 add-k c = omega arith
 
+alarms-in-requires : tie.Need-alarms-in-requires Inv-loop μ-loop
+alarms-in-requires c κs = search needs
+
 put-descriptor-requires : tie.Need-put-descriptor-requires Inv-loop μ-loop
-put-descriptor-requires c κs = grown-space (descriptorOf _ _ _) _ (ahead (c .before))
+put-descriptor-requires c κs = grown-space (descriptorOf _ _ _) _ (ahead c)
 
 units-for-requires : tie.Need-units-for-requires Inv-loop μ-loop
 units-for-requires c κs = search needs
@@ -58,8 +61,8 @@ loop-less c = omega arith
 loop-again : tie.Need-loop-again Inv-loop μ-loop
 loop-again c =
     let p = c .before .before .before in
-    let t = p .before .before in
-    let l = t .before .before .before in
+    let t = p .before in
+    let l = t .before .before .before .before .before in
     let a = l .before .before .before .args in
     let left = drop (l .loop .k + 1) (a .sums .now) in
     let e : a .first + l .loop .k + 1 ≡ a .first + (l .loop .k + 1) = omega arith in
@@ -103,6 +106,7 @@ put-table-spec =
     shared-slice-read-sum
     add-day
     add-k
+    alarms-in-requires
     put-descriptor-requires
     units-for-requires
     add-u

@@ -11,7 +11,7 @@ use Rattle.occurrences.specs.Next.{Next}
 use Rattle.occurrences.specs.declared.types.Rule.{Rule}
 use Rattle.occurrences.specs.Laws.After.{spanned-days, next-ahead}
 use Rattle.pages.specs.Invariants.{recordAt}
-use Rattle.export.specs.Passes.{AtMost, marked}
+use Rattle.export.specs.Passes.{AtMost, marked, mostSum}
 use Rattle.export.specs.Laws.Collecting.{Collecting, collect-start, collect-sound, collect-skip, collect-take, collect-end}
 use Rattle.export.proofs.collecting.collect.Statement.{statement}
 use Rattle.export.proofs.collecting.collect.Tie as tie
@@ -67,7 +67,7 @@ take-in-requires c κs =
     let s = l .before .before .before .before .before in
     let g = l .loop .inv .0 in
     let most = count-most (s .args .file .now) (s .pre .0 .long) in
-    let below : AtMost 40192304123904 (l .loop .sums) = record { each = λ k i. omega (arith, g .below .each k i, most, s .pre .0 .size, s .pre .0 .count) } in
+    let below : AtMost mostSum (l .loop .sums) = record { each = λ k i. omega (arith, g .below .each k i, most, s .pre .0 .size, s .pre .0 .count) } in
     (collect-sound g (s .pre .0) (omega arith), (omega (arith, most, s .pre .0 .size, s .pre .0 .count), (n .before .before .rule-at .ensures, (spanned-days (s .pre .1 .0), (g .long, (shown n, below))))))
 
 mul-codes : tie.Need-mul-codes Inv-loop μ-loop
