@@ -3,6 +3,7 @@ ghost use mathlib.Core.Path.{_≡_};
 ghost use Rattle.calendar_writer.specs.Sums.{descriptorOf, blockHead};
 ghost use Rattle.calendar_writer.specs.Pieces.{headMark, settingsWords, appointmentHead};
 use calendar::types::CalendarSettings;
+use days::types::Minute;
 use prelude::numbers::high;
 use prelude::numbers::high_of_size;
 use prelude::numbers::low;
@@ -80,8 +81,8 @@ pub fn block_head(day: usize, n: usize) -> [u8; 10]
     ]
 }
 
-pub fn appointment_head(size: u8, flags: u8, minute: u16) -> [u8; 4]
-    ensures { λ r. ⌜ r ≡ appointmentHead size flags minute ⌝ }
+pub fn appointment_head(size: u8, flags: u8, minute: Minute) -> [u8; 4]
+    ensures { λ r. ⌜ r ≡ appointmentHead size flags (minute .0) ⌝ }
 {
-    [size, flags, low(minute), high(minute)]
+    [size, flags, low(minute.0), high(minute.0)]
 }

@@ -8,6 +8,7 @@ ghost use Rattle.calendar_writer.specs.Scatter.{FilledBlocks};
 use crate::puts::put_blank;
 
 // The blocks of the days from the first on, and the place of each day's first appointment.
+// A day is a number in a span here: first + k is the day of the k-th sum.
 pub fn put_blanks(
     out: &mut [u8],
     at: usize,

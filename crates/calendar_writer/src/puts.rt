@@ -17,6 +17,7 @@ use crate::measuring::units_for;
 use crate::sums::alarms_in;
 use crate::sums::bytes_in;
 use calendar::types::CalendarSettings;
+use days::types::Minute;
 use prelude::slices::copy_in;
 
 pub fn put_zeros(out: &mut [u8], at: usize, n: usize) -> usize
@@ -54,6 +55,7 @@ fn put_descriptor(out: &mut [u8], at: usize, day: usize, alarms: usize, unit: us
 }
 
 // A descriptor for each day with appointments, from the sums; the first block stands at that unit.
+// A day is a number in a span here: first + k is the day of the k-th sum.
 pub fn put_table(out: &mut [u8], at: usize, first: usize, sums: &[u64], unit: usize) -> usize
     requires { ⌜ first + length (now sums) ≤ lastDay + 1 ⌝ }
     requires { ⌜ unit ≤ 1000 ⌝ }
@@ -76,7 +78,7 @@ pub fn put_table(out: &mut [u8], at: usize, first: usize, sums: &[u64], unit: us
     pos
 }
 
-// The block of a day with its appointments left zero; nothing where it has none.
+// The block of a day with its appointments left zero; nothing where it has none. The day is a number in a span.
 pub fn put_blank(out: &mut [u8], at: usize, day: usize, sum: u64) -> usize
     requires { ⌜ at + length (rowOf day sum []) ≤ length (now out) ⌝ }
     ensures next { λ r. ⌜ r ≡ at + length (rowOf day sum []) ⌝ }
@@ -91,11 +93,11 @@ pub fn put_blank(out: &mut [u8], at: usize, day: usize, sum: u64) -> usize
 }
 
 // An appointment of that minute, flags and text.
-pub fn put_appointment(out: &mut [u8], at: usize, minute: u16, flags: u8, text: &[u8]) -> usize
+pub fn put_appointment(out: &mut [u8], at: usize, minute: Minute, flags: u8, text: &[u8]) -> usize
     requires { ⌜ length (now text) ≤ mostText ⌝ }
-    requires { ⌜ at + length (appointmentBytes (record { minute = minute; flags = flags; text = now text })) ≤ length (now out) ⌝ }
-    ensures next { λ r. ⌜ r ≡ at + length (appointmentBytes (record { minute = minute; flags = flags; text = now (text .entry) })) ⌝ }
-    ensures put { λ _. ⌜ now (out .exit) ≡ splice (now (out .entry)) at (appointmentBytes (record { minute = minute; flags = flags; text = now (text .entry) })) ⌝ }
+    requires { ⌜ at + length (appointmentBytes (record { minute = minute .0; flags = flags; text = now text })) ≤ length (now out) ⌝ }
+    ensures next { λ r. ⌜ r ≡ at + length (appointmentBytes (record { minute = minute .0; flags = flags; text = now (text .entry) })) ⌝ }
+    ensures put { λ _. ⌜ now (out .exit) ≡ splice (now (out .entry)) at (appointmentBytes (record { minute = minute .0; flags = flags; text = now (text .entry) })) ⌝ }
 {
     let head = appointment_head((5 + text.len()) as u8, flags, minute);
     let second = copy_in(out, at, &head);

@@ -59,7 +59,7 @@ fn fill_code(
     let flags = flags_of(line.alarm, minute, interval);
     let text = part(file, line.text.place, line.text.length);
     let mut piece = [0u8; 32];
-    let size = put_appointment(&mut piece, 0, minute, flags, text);
+    let size = put_appointment(&mut piece, 0, line.start, flags, text);
     let r = rule_at(file, (code % 65536) as usize);
     put_hits(c, r, first, days, &piece[..size], places, out);
 }

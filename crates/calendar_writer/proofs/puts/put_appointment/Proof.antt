@@ -12,10 +12,10 @@ use Rattle.calendar_writer.proofs.puts.put_appointment.Statement.{state
 use Rattle.calendar_writer.proofs.puts.put_appointment.Tie as tie
 
 abbrev appointmentOf : tie.Start → Appointment
-appointmentOf s = record { minute = s .args .minute; flags = s .args .flags; text = s .args .text .now }
+appointmentOf s = record { minute = s .args .minute .0; flags = s .args .flags; text = s .args .text .now }
 
 -- before the first piece, and behind each of the first two
-g0 : (s : tie.Start) → let a = s .args in Grown (a .out .now) (a .at) (appointmentBytes (appointmentOf s)) (a .out .now) (a .at) (appointmentHead (5 + length (a .text .now)) (a .flags) (a .minute) ++ (a .text .now ++ zeros 1))
+g0 : (s : tie.Start) → let a = s .args in Grown (a .out .now) (a .at) (appointmentBytes (appointmentOf s)) (a .out .now) (a .at) (appointmentHead (5 + length (a .text .now)) (a .flags) (a .minute .0) ++ (a .text .now ++ zeros 1))
 g0 s = grown-turn (appointment-pieces (appointmentOf s)) (grown-start (s .pre .1))
 
 g1 : (c : tie.After-copy-in) → let s = c .before .before .before .before .before .before in let a = s .args in Grown (a .out .now) (a .at) (appointmentBytes (appointmentOf s)) (c .copy-in .last .0) (c .copy-in .result) (a .text .now ++ zeros 1)
