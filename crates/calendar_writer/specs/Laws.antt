@@ -6,6 +6,7 @@ pub mod TableRead
 pub mod FileRead
 pub mod Measure
 pub mod Spans
+pub mod Spots
 pub mod Rows
 pub mod Scatter
 pub mod Filling

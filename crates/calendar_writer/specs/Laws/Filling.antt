@@ -16,7 +16,8 @@ use Rattle.calendar.specs.Laws.File.{length-appointment}
 use Rattle.calendar_writer.specs.Sums.{bytesIn, rows, unitsTo, noneYet}
 use Rattle.calendar_writer.specs.Scatter.{Added, scatter, placeOf, FilledBlocks}
 use Rattle.calendar_writer.specs.Laws.Scatter.{scatter-end, scatter-no, scatter-yes}
-use Rattle.calendar_writer.specs.Laws.Rows.{Spot, splice-text, spot-put, length-more, Fits, rows-same, units-room, length-rows, rows-spot}
+use Rattle.calendar_writer.specs.Laws.Spots.{Spot, splice-text, spot-put}
+use Rattle.calendar_writer.specs.Laws.Rows.{length-more, Fits, rows-same, units-room, length-rows, rows-spot}
 
 module _ (o : List ℕ) (at d : ℕ) (ss : List ℕ) (p : ℕ → Bool) (a : Appointment) (places : List ℕ) (inside : at ≤ length o) where
   abbrev piece : List ℕ
