@@ -59,6 +59,10 @@ Sums list d (s ∷ ss) = Sum s (list d) × Sums list (suc d) ss
 abbrev pub unitsFor : ℕ → ℕ
 unitsFor s = units (10 + bytesIn s)
 
+-- those of the longest block: no sum has more than 65,535 bytes
+abbrev pub mostUnits : ℕ
+mostUnits = unitsFor 65535
+
 -- n days behind with u units of blocks, the last of which began after `last` units, and a appointments
 abbrev pub measured : ℕ → ℕ → ℕ → ℕ → Measure
 measured n u last a =

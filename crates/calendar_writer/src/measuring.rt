@@ -1,11 +1,11 @@
 // The measure of an export, from the sums of its days: all that is decided before the first byte is written.
 ghost use mathlib.Core.Path.{_≡_};
 ghost use mathlib.Core.Bool.{true, false};
-ghost use Prim.Native.Nat.{_≤_};
+ghost use Prim.Native.Nat.{_*_, _≤_};
 ghost use lib.ListN.{length};
 ghost use Rattle.prelude.specs.Choice.{ifLt};
 ghost use Rattle.calendar.specs.File.{firstUnit, lastBlock};
-ghost use Rattle.calendar_writer.specs.Sums.{unitsFor, measured, sumUp};
+ghost use Rattle.calendar_writer.specs.Sums.{unitsFor, mostUnits, measured, sumUp};
 ghost use Rattle.calendar_writer.specs.DayLists.{mostDays};
 use crate::sums::bytes_in;
 use crate::sums::count_in;
@@ -38,7 +38,7 @@ fn is_past_last(unit: usize) -> bool
 
 fn measure_of(n: usize, units: usize, last: usize, appointments: usize) -> Measure
     requires { ⌜ n ≤ mostDays ⌝ }
-    requires { ⌜ units ≤ 375150 ⌝ }
+    requires { ⌜ units ≤ mostDays * mostUnits ⌝ }
     requires { ⌜ last ≤ units ⌝ }
     ensures { λ r. ⌜ r ≡ measured n units last appointments ⌝ }
 {

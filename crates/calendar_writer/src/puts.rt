@@ -6,7 +6,8 @@ ghost use lib.ListN.{length};
 ghost use Rattle.prelude.specs.Splice.{splice};
 ghost use Rattle.days.specs.Days.{lastDay};
 ghost use Rattle.texts.specs.Notes.{mostText};
-ghost use Rattle.calendar.specs.File.{zeros, headBytes, appointmentBytes};
+ghost use Rattle.calendar.specs.File.{zeros, headBytes, firstUnit, appointmentBytes};
+ghost use Rattle.calendar_writer.specs.DayLists.{mostDays};
 ghost use Rattle.calendar_writer.specs.Sums.{descriptorOf, sumTable, rowOf};
 use crate::bytes::appointment_head;
 use crate::bytes::block_head;
@@ -58,7 +59,7 @@ fn put_descriptor(out: &mut [u8], at: usize, day: usize, alarms: usize, unit: us
 // A day is a number in a span here: first + k is the day of the k-th sum.
 pub fn put_table(out: &mut [u8], at: usize, first: usize, sums: &[u64], unit: usize) -> usize
     requires { ⌜ first + length (now sums) ≤ lastDay + 1 ⌝ }
-    requires { ⌜ unit ≤ 1000 ⌝ }
+    requires { ⌜ unit ≤ firstUnit mostDays ⌝ }
     requires { ⌜ at + length (sumTable first unit (now sums)) ≤ length (now out) ⌝ }
     ensures next { λ r. ⌜ r ≡ at + length (sumTable first unit (now (sums .entry))) ⌝ }
     ensures put { λ _. ⌜ now (out .exit) ≡ splice (now (out .entry)) at (sumTable first unit (now (sums .entry))) ⌝ }

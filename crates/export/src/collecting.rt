@@ -4,7 +4,7 @@ ghost use mathlib.Core.List.{map};
 ghost use Prim.Native.Nat.{_<_, _≤_};
 ghost use lib.ListN.{length, getD, take};
 ghost use Rattle.sorting.specs.Keep.{keep};
-ghost use Rattle.book.specs.Books.{entryAt, mostBookBytes};
+ghost use Rattle.book.specs.Books.{entryAt, mostBookBytes, mostRecords};
 ghost use Rattle.pages.specs.Pages.{numbered};
 ghost use Rattle.pages.specs.Invariants.{recordAt};
 ghost use Rattle.pages.specs.Codes.{code};
@@ -71,7 +71,7 @@ fn take_in(
     sums: &mut [u64],
 ) -> u64
     requires { ⌜ Sound (now file) at ⌝ }
-    requires { ⌜ number < 65536 ⌝ }
+    requires { ⌜ number < mostRecords ⌝ }
     requires { ⌜ r ≡ ruleOf (entryAt (now file) at .«record») ⌝ }
     requires { ⌜ Days (now days) ⌝ }
     requires { ⌜ length (now sums) ≡ length (now days) ⌝ }

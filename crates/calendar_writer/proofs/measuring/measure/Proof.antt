@@ -5,7 +5,7 @@ use mathlib.Core.Path.{_≡_, refl, sym, _∙_}
 use native.Mathlib.Omega.{arith}
 use lib.ListN.{length, drop}
 use borrow.Author.Needs.{needs}
-use Rattle.calendar_writer.specs.Sums.{countIn, sumUp}
+use Rattle.calendar_writer.specs.Sums.{countIn, mostUnits, sumUp}
 use Rattle.calendar_writer.specs.DayLists.{mostDays}
 use Rattle.calendar_writer.specs.Laws.Turns.{sum-end, sum-none, sum-some}
 use Rattle.calendar_writer.proofs.measuring.measure.Statement.{statement}
@@ -13,7 +13,7 @@ use Rattle.calendar_writer.proofs.measuring.measure.Tie as tie
 
 abbrev Inv-loop : tie.InvT-loop
 Inv-loop sums n₀ units₀ last₀ appointments₀ k₀ n units last appointments k =
-    (sumUp 0 0 0 0 sums ≡ sumUp n units last appointments (drop k sums)) × (k ≤ length sums) × (n ≤ k) × (units ≤ 1025 * k) × (last ≤ units) × (appointments ≤ 4294967296 * k)
+    (sumUp 0 0 0 0 sums ≡ sumUp n units last appointments (drop k sums)) × (k ≤ length sums) × (n ≤ k) × (units ≤ mostUnits * k) × (last ≤ units) × (appointments ≤ 4294967296 * k)
 
 abbrev μ-loop : tie.MeasureT-loop
 μ-loop sums n₀ units₀ last₀ appointments₀ k₀ n units last appointments k = length sums - k

@@ -8,13 +8,15 @@ use native.Mathlib.Nat.{add-zero}
 use borrow.Author.Needs.{needs}
 use lib.ListN.{length, getD, drop}
 use Rattle.prelude.specs.Laws.Grown.{Grown, grown-start, grown-space, grown-more, grown-turn, grown-end}
-use Rattle.calendar_writer.specs.Sums.{unitsFor, descriptorOf, sumTable}
+use Rattle.calendar.specs.File.{firstUnit}
+use Rattle.calendar_writer.specs.DayLists.{mostDays}
+use Rattle.calendar_writer.specs.Sums.{unitsFor, mostUnits, descriptorOf, sumTable}
 use Rattle.calendar_writer.specs.Laws.Turns.{table-end, table-none, table-some}
 use Rattle.calendar_writer.proofs.puts.put_table.Statement.{statement}
 use Rattle.calendar_writer.proofs.puts.put_table.Tie as tie
 
 abbrev Inv-loop : tie.InvT-loop
-Inv-loop out₀ at first sums unit pos₀ u₀ k₀ out pos u k = Grown out₀ at (sumTable first unit sums) out pos (sumTable (first + k) u (drop k sums)) × (k ≤ length sums) × (u ≤ 1000 + 1025 * k)
+Inv-loop out₀ at first sums unit pos₀ u₀ k₀ out pos u k = Grown out₀ at (sumTable first unit sums) out pos (sumTable (first + k) u (drop k sums)) × (k ≤ length sums) × (u ≤ firstUnit mostDays + mostUnits * k)
 
 abbrev μ-loop : tie.MeasureT-loop
 μ-loop out₀ at first sums unit pos₀ u₀ k₀ out pos u k = length sums - k

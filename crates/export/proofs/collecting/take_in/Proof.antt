@@ -51,7 +51,7 @@ returns c =
     let times = t .before .times-at .ensures in
     let weight : w .weight-of .result ≡ weighs (recordAt f (s .args .number) (s .args .at)) =
     w .weight-of .ensures ∙ rw (times, t .text-of .ensures) in (
-      c .code-of .ensures ∙ ap (λ (x : Times). codeWith (x .start .0) (s .args .number) (s .args .at)) times ∙ sym (code-at f (s .args .number) (s .args .at) (s .pre .1 .0) (omega (arith, s .pre .0 .place))),
+      c .code-of .ensures ∙ ap (λ (x : Times). codeWith (x .start .0) (s .args .number) (s .args .at)) times ∙ sym (code-at f (s .args .number) (s .args .at) (omega arith) (omega (arith, s .pre .0 .place))),
       rw weight at (h .add-hits .ensures),
     )
 
