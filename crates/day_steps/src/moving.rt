@@ -67,7 +67,7 @@ fn facts_at(d: Date, n: CalendarDay) -> DayFacts
     DayFacts {
         day: n,
         date: d,
-        weekday: weekday_of(n.0),
+        weekday: weekday_of(n),
         length: month_days(d.year, d.month),
     }
 }

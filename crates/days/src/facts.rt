@@ -25,12 +25,12 @@ pub fn facts_of_day(n: CalendarDay) -> FactsAnswer
             place: 0,
         });
     }
-    let date = date_of(n.0);
+    let date = date_of(n);
     let length = month_days(date.year, date.month);
     FactsAnswer::Facts(DayFacts {
         day: n,
         date,
-        weekday: weekday_of(n.0),
+        weekday: weekday_of(n),
         length,
     })
 }

@@ -50,16 +50,16 @@ pub fn day_of_date(d: Date) -> DayAnswer
 }
 
 // The date of a day in range: its month by the table, and the days from the month's start.
-pub fn date_of(n: u16) -> Date
-    requires { ⌜ n ≤ lastDay ⌝ }
-    ensures { λ r. ⌜ r ≡ dateOf n ⌝ }
+pub(crate) fn date_of(n: CalendarDay) -> Date
+    requires { ⌜ n .0 ≤ lastDay ⌝ }
+    ensures { λ r. ⌜ r ≡ dateOf (n .0) ⌝ }
 {
-    let m = month_of(n);
+    let m = month_of(n.0);
     let i = m.number;
     Date {
         year: (1980 + i / 12) as u16,
         month: (i % 12 + 1) as u16,
-        day: n - m.start + 1,
+        day: n.0 - m.start + 1,
     }
 }
 
@@ -73,15 +73,15 @@ pub fn date_of_day(n: CalendarDay) -> DateAnswer
             place: 0,
         });
     }
-    DateAnswer::Date(date_of(n.0))
+    DateAnswer::Date(date_of(n))
 }
 
 // The weekday of a day in range, 1 = Sunday to 7 = Saturday. 65,536 is 2 past a multiple of 7: beyond 16 bits the remainder costs fewer instructions.
-pub fn weekday_of(n: u16) -> u16
-    requires { ⌜ n ≤ lastDay ⌝ }
-    ensures { λ r. ⌜ r ≡ weekdayOf n ⌝ }
+pub fn weekday_of(n: CalendarDay) -> u16
+    requires { ⌜ n .0 ≤ lastDay ⌝ }
+    ensures { λ r. ⌜ r ≡ weekdayOf (n .0) ⌝ }
 {
-    ((n as u32 + 65536) % 7 + 1) as u16
+    ((n.0 as u32 + 65536) % 7 + 1) as u16
 }
 
 // The weekday of a Calendar day.
@@ -94,5 +94,5 @@ pub fn weekday_of_day(n: CalendarDay) -> WeekdayAnswer
             place: 0,
         });
     }
-    WeekdayAnswer::Weekday(weekday_of(n.0))
+    WeekdayAnswer::Weekday(weekday_of(n))
 }

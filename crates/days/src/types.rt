@@ -3,6 +3,9 @@
 // 31 December 2099.
 pub const LAST_DAY: u16 = 43829;
 
+// How many days the calendar has: the number past its last day.
+pub const DAYS: u16 = 43830;
+
 pub const LAST_MINUTE: u16 = 1439;
 
 // A Calendar day: 1 January 1980 = 0 to 31 December 2099 = 43,829.

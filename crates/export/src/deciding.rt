@@ -5,6 +5,7 @@ ghost use Rattle.export.specs.Export.{spanOk, sized};
 use crate::answers::ExportAnswer;
 use calendar_writer::types::MOST_COUNT;
 use calendar_writer::types::Measure;
+use days::types::DAYS;
 use days::types::LAST_DAY;
 use prelude::refusals::NO_ROOM;
 use prelude::refusals::Refusal;
@@ -25,7 +26,7 @@ pub fn span_ok(first: u16, count: u16) -> bool
     if MOST_COUNT < count {
         return false;
     }
-    if 43830 < first + count {
+    if DAYS < first + count {
         return false;
     }
     true

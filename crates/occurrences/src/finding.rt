@@ -13,8 +13,10 @@ use day_steps::moving::days_later;
 use day_steps::moving::to_date;
 use day_steps::packing::date_code;
 use day_steps::packing::day_code;
+use days::types::DAYS;
 use days::types::Date;
 use days::types::DayFacts;
+use days::types::LAST_DAY;
 use falls::types::ShortMonth;
 
 // On to the rule's first date, where it is ahead.
@@ -33,8 +35,8 @@ fn start_of(r: Rule, f: DayFacts) -> DayFacts
     f
 }
 
-// The first such day from that of f on; 43,830 where there is none.
-pub fn next_shown(c: ShortMonth, r: Rule, f: DayFacts) -> u32
+// The first such day from that of f on; `DAYS` where there is none.
+pub fn next_shown(c: ShortMonth, r: Rule, f: DayFacts) -> u16
     requires { ⌜ FactsAt f (f .day .0) ⌝ }
     ensures { λ n. ⌜ Next (λ d. ruleShows c r (dayCode (factsOf d))) (f .day .0) (lastDay + 1) n ⌝ }
 {
@@ -42,15 +44,15 @@ pub fn next_shown(c: ShortMonth, r: Rule, f: DayFacts) -> u32
     loop {
         let p = day_code(g);
         if r.last < p / 256 {
-            return 43830;
+            return DAYS;
         }
         if rule_shows(c, r, p) {
-            return g.day.0 as u32;
+            return g.day.0;
         }
         let wait = wait_for(r, p);
-        let ahead = 43829 - g.day.0 as u32;
+        let ahead = (LAST_DAY - g.day.0) as u32;
         if ahead < wait {
-            return 43830;
+            return DAYS;
         }
         g = days_later(g, wait as u16);
     }

@@ -21,6 +21,7 @@ use crate::validating::validate;
 use book::entries::body_at;
 use book::entries::place_of;
 use days::types::CalendarDay;
+use days::types::DAYS;
 use days::types::DayFacts;
 use falls::rules::falls_on;
 use falls::types::ShortMonth;
@@ -72,16 +73,16 @@ fn search_on(t: u8, p: &[u8], c: ShortMonth, from: DayFacts) -> NextAnswer
     requires { ⌜ recordOk (recordOf t (now p)) ≡ true ⌝ }
     ensures { λ r. ⌜ r ≡ nextOf (λ d. falls c (factsOf d) (recordOf t (now (p .entry)))) (from .day .0) ⌝ }
 {
-    let first = from.day.0 as u32;
+    let first = from.day.0;
     let rule = rule_of(t, p);
     let day = next_shown(c, rule, from);
-    if day < 43830 {
+    if day < DAYS {
         return NextAnswer::Found(Occurrence {
-            day: CalendarDay(day as u16),
-            looked: day - first + 1,
+            day: CalendarDay(day),
+            looked: (day - first) as u32 + 1,
         });
     }
-    NextAnswer::NoneLeft(43830 - first)
+    NextAnswer::NoneLeft((DAYS - first) as u32)
 }
 
 fn next_in(file: &[u8], c: ShortMonth, k: usize, a: Ready) -> NextAnswer

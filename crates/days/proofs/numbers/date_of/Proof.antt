@@ -12,7 +12,7 @@ month-of-requires : tie.Need-month-of-requires
 month-of-requires c κs = search needs
 
 -- the day lies in the month found
-inside : (c : tie.After-month-of) → InMonth (c .before .args .n) (c .month-of .result .number)
+inside : (c : tie.After-month-of) → InMonth (c .before .args .n .0) (c .month-of .result .number)
 inside c = let f = c .month-of .ensures in rw (f .month) (f .halvings .inside)
 
 add-t5 : tie.Need-add-t5
@@ -28,13 +28,13 @@ cast-t9 : tie.Need-cast-t9
 cast-t9 c = search needs
 
 sub-t10 : tie.Need-sub-t10
-sub-t10 c = omega (arith, inside (c .before))
+sub-t10 c = omega (arith, inside (c .before .before))
 
 add-t11 : tie.Need-add-t11
 add-t11 c = search needs
 
 returns : tie.Need-returns
-returns c = let m = c .before .month-of .ensures in rw (m .starts) (sym (date-in-month (inside (c .before))))
+returns c = let m = c .before .before .month-of .ensures in rw (m .starts) (sym (date-in-month (inside (c .before .before))))
 
 pub date-of-spec : {M : Type 1} → statement M
 date-of-spec =

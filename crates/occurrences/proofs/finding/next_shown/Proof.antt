@@ -63,25 +63,22 @@ returns c =
 rule-shows-requires : tie.Need-rule-shows-requires Inv-loop μ-loop
 rule-shows-requires c κs = search needs
 
-cast-result : tie.Need-cast-result Inv-loop μ-loop
-cast-result c = omega arith
-
 returns-2 : tie.Need-returns-2 Inv-loop μ-loop
 returns-2 c =
-    let l = c .before .before .before .before .before .before in
+    let l = c .before .before .before .before .before in
     let a = l .before .before .args in
     let s = l .before .start-of .ensures .low in
     next-hit (omega arith) (omega (arith, l .loop .inv .0 .high)) (passed l)
-    (ap (λ (p : ℕ). ruleShows (a .c) (a .r) p) (sym (code (c .before .before .before .before .before))) ∙ sym (c .before .before .rule-shows .ensures) ∙ c .before .if2 .taken)
+    (ap (λ (p : ℕ). ruleShows (a .c) (a .r) p) (sym (code (c .before .before .before .before))) ∙ sym (c .before .rule-shows .ensures) ∙ c .if2 .taken)
 
 wait-for-requires : tie.Need-wait-for-requires Inv-loop μ-loop
 wait-for-requires c κs = search needs
 
-cast-ahead : tie.Need-cast-ahead Inv-loop μ-loop
-cast-ahead c = omega arith
-
 sub-ahead : tie.Need-sub-ahead Inv-loop μ-loop
 sub-ahead c = c .before .before .before .before .before .before .before .loop .inv .0 .high
+
+cast-ahead : tie.Need-cast-ahead Inv-loop μ-loop
+cast-ahead c = omega arith
 
 returns-3 : tie.Need-returns-3 Inv-loop μ-loop
 returns-3 c =
@@ -123,11 +120,10 @@ next-shown-spec =
     day-code-requires
     returns
     rule-shows-requires
-    cast-result
     returns-2
     wait-for-requires
-    cast-ahead
     sub-ahead
+    cast-ahead
     returns-3
     cast-days-later
     days-later-requires

@@ -16,13 +16,10 @@ use Rattle.pages.proofs.next.search_on.Statement.{statement}
 use Rattle.pages.proofs.next.search_on.Tie as tie
 
 -- what the day found says of the search
-found : (c : tie.After-next-shown) → (let a = c .before .before .before .before .args in nextOf (λ d. falls (a .c) (factsOf d) (recordOf (a .t) (a .p .now))) (a .from .day .0) ≡ ifLt (c .next-shown .result) (lastDay + 1) (foundOn (a .from .day .0) (c .next-shown .result)) (noneFrom (a .from .day .0)))
+found : (c : tie.After-next-shown) → (let a = c .before .before .before .args in nextOf (λ d. falls (a .c) (factsOf d) (recordOf (a .t) (a .p .now))) (a .from .day .0) ≡ ifLt (c .next-shown .result) (lastDay + 1) (foundOn (a .from .day .0) (c .next-shown .result)) (noneFrom (a .from .day .0)))
 found c =
-    let s = c .before .before .before .before in
+    let s = c .before .before .before in
     rule-next _ _ (s .pre .1) (s .pre .0 .high) (rw (c .before .rule-of .ensures) at (c .next-shown .ensures))
-
-cast-first : tie.Need-cast-first
-cast-first c = search needs
 
 rule-of-requires : tie.Need-rule-of-requires
 rule-of-requires c κs = search needs
@@ -30,11 +27,11 @@ rule-of-requires c κs = search needs
 next-shown-requires : tie.Need-next-shown-requires
 next-shown-requires c κs = search needs
 
-cast-t9 : tie.Need-cast-t9
-cast-t9 c = search needs
+sub-t10 : tie.Need-sub-t10
+sub-t10 c = search needs
 
-sub-t11 : tie.Need-sub-t11
-sub-t11 c = search needs
+cast-t11 : tie.Need-cast-t11
+cast-t11 c = search needs
 
 add-t12 : tie.Need-add-t12
 add-t12 c = search needs
@@ -45,6 +42,9 @@ returns c = sym (found (c .before) ∙ is-lt (omega arith) _ _)
 sub-t14 : tie.Need-sub-t14
 sub-t14 c = search needs
 
+cast-t15 : tie.Need-cast-t15
+cast-t15 c = search needs
+
 returns-2 : tie.Need-returns-2
 returns-2 c = sym (found (c .before) ∙ is-ge (omega arith) _ _)
 
@@ -52,12 +52,12 @@ pub search-on-spec : {M : Type 1} → statement M
 search-on-spec =
     tie.close
     (tie.spec
-    cast-first
     rule-of-requires
     next-shown-requires
-    cast-t9
-    sub-t11
+    sub-t10
+    cast-t11
     add-t12
     returns
     sub-t14
+    cast-t15
     returns-2)
