@@ -13,6 +13,10 @@ use Rattle.days.specs.declared.types.DayFacts.{DayFacts}
 abbrev pub dateCode : Date → ℕ
 dateCode d = (d .year * 16 + d .month) * 32 + d .day
 
+-- the date of such a code; a year has 16 bits
+abbrev pub dateOfCode : ℕ → Date
+dateOfCode code = record { year = code / 512 % 65536; month = code / 32 % 16; day = code % 32 }
+
 abbrev pub dayCode : DayFacts → ℕ
 dayCode f = dateCode (f .date) * 256 + f .weekday * 32 + f .length
 

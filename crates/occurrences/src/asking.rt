@@ -6,6 +6,11 @@ ghost use Rattle.prelude.specs.Choice.{ifEq};
 ghost use Rattle.day_steps.specs.Codes.{dayIn, weekdayIn};
 ghost use Rattle.occurrences.specs.Rules.{missingShows, dayShows, onDate, inDates, ruleShows};
 use crate::types::Rule;
+use day_steps::codes::date_in;
+use day_steps::codes::day_in;
+use day_steps::codes::month_in;
+use day_steps::codes::month_length_in;
+use day_steps::codes::weekday_in;
 use falls::types::ShortMonth;
 use prelude::numbers::is_same_wide;
 
@@ -15,24 +20,24 @@ fn missing_shows(c: ShortMonth, p: u32) -> bool
 {
     match c {
         ShortMonth::Skip => false,
-        ShortMonth::Last => is_same_wide(p / 256 % 32, p % 32),
+        ShortMonth::Last => is_same_wide(day_in(p), month_length_in(p)),
     }
 }
 
 fn day_shows(c: ShortMonth, p: u32, day: u32) -> bool
     ensures { λ r. ⌜ r ≡ dayShows c p day ⌝ }
 {
-    if p % 32 < day {
+    if month_length_in(p) < day {
         return missing_shows(c, p);
     }
-    is_same_wide(p / 256 % 32, day)
+    is_same_wide(day_in(p), day)
 }
 
 fn position_shows(r: Rule, p: u32) -> bool
     ensures { λ z. ⌜ z ≡ ifEq (weekdayIn p) (r .a) (ifEq ((dayIn p + 6) / 7) (r .b) true false) false ⌝ }
 {
-    if p / 32 % 8 == r.a {
-        return is_same_wide((p / 256 % 32 + 6) / 7, r.b);
+    if weekday_in(p) == r.a {
+        return is_same_wide((day_in(p) + 6) / 7, r.b);
     }
     false
 }
@@ -41,7 +46,7 @@ fn on_date(c: ShortMonth, r: Rule, p: u32) -> bool
     ensures { λ z. ⌜ z ≡ onDate c r p ⌝ }
 {
     if r.kind == 2 {
-        return is_same_wide(p / 32 % 8, r.a);
+        return is_same_wide(weekday_in(p), r.a);
     }
     if r.kind == 1 {
         return true;
@@ -53,7 +58,7 @@ fn on_date(c: ShortMonth, r: Rule, p: u32) -> bool
         return position_shows(r, p);
     }
     if r.kind == 5 {
-        if p / 8192 % 16 == r.a {
+        if month_in(p) == r.a {
             return day_shows(c, p, r.b);
         }
         return false;
@@ -64,7 +69,7 @@ fn on_date(c: ShortMonth, r: Rule, p: u32) -> bool
 fn in_dates(r: Rule, p: u32) -> bool
     ensures { λ z. ⌜ z ≡ inDates r p ⌝ }
 {
-    let date = p / 256;
+    let date = date_in(p);
     if date < r.first {
         return false;
     }

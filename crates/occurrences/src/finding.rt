@@ -9,12 +9,13 @@ ghost use Rattle.occurrences.specs.Rules.{ruleShows};
 use crate::asking::rule_shows;
 use crate::types::Rule;
 use crate::waiting::wait_for;
+use day_steps::codes::date_code;
+use day_steps::codes::date_in;
+use day_steps::codes::date_of_code;
+use day_steps::codes::day_code;
 use day_steps::moving::days_later;
 use day_steps::moving::to_date;
-use day_steps::packing::date_code;
-use day_steps::packing::day_code;
 use days::types::DAYS;
-use days::types::Date;
 use days::types::DayFacts;
 use days::types::LAST_DAY;
 use falls::types::ShortMonth;
@@ -25,12 +26,7 @@ fn start_of(r: Rule, f: DayFacts) -> DayFacts
     ensures { λ g. ⌜ Reaches f (r .first) g ⌝ }
 {
     if date_code(f.date) < r.first {
-        let d = Date {
-            year: (r.first / 512 % 65536) as u16,
-            month: (r.first / 32 % 16) as u16,
-            day: (r.first % 32) as u16,
-        };
-        return to_date(f, d);
+        return to_date(f, date_of_code(r.first));
     }
     f
 }
@@ -43,7 +39,7 @@ pub fn next_shown(c: ShortMonth, r: Rule, f: DayFacts) -> u16
     let mut g = start_of(r, f);
     loop {
         let p = day_code(g);
-        if r.last < p / 256 {
+        if r.last < date_in(p) {
             return DAYS;
         }
         if rule_shows(c, r, p) {

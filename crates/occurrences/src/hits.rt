@@ -9,6 +9,8 @@ ghost use Rattle.occurrences.specs.Next.{Next, DatesAhead};
 use crate::asking::rule_shows;
 use crate::types::Rule;
 use crate::waiting::wait_for;
+use day_steps::codes::date_in;
+use day_steps::codes::date_of_code;
 use falls::types::ShortMonth;
 use std::num::wrapping_sub_usize;
 
@@ -17,9 +19,10 @@ const COUNT_TO_DAY_0: usize = 723502;
 
 // Days up to a date, counted by years that begin in March. It tells `on_to` where to look, and nothing rests on it.
 fn count_to(date: u32) -> u32 {
-    let year = date / 512;
-    let month = date / 32 % 16;
-    let day = date % 32;
+    let d = date_of_code(date);
+    let year = d.year as u32;
+    let month = d.month as u32;
+    let day = d.day as u32;
     if month < 3 {
         return 365 * year + (year + 3) / 4 + (979 * month + 8829) / 32 + day;
     }
@@ -36,19 +39,19 @@ pub fn on_to(date: u32, first: usize, days: &[u32]) -> usize
         return 0;
     }
     let p = days[0];
-    if date <= p / 256 {
+    if date <= date_in(p) {
         return 0;
     }
     let last = days.len() - 1;
     let q = days[last];
-    if q / 256 < date {
+    if date_in(q) < date {
         return days.len();
     }
     let count = count_to(date) as usize;
     let n = wrapping_sub_usize(count, first + COUNT_TO_DAY_0);
     if n <= last {
         let t = days[n];
-        if t / 256 <= date {
+        if date_in(t) <= date {
             return n;
         }
     }
@@ -84,7 +87,7 @@ fn week_after(c: ShortMonth, r: Rule, days: &[u32], j: usize) -> usize
         return days.len();
     }
     let q = days[k];
-    if r.last < q / 256 {
+    if r.last < date_in(q) {
         return days.len();
     }
     k
@@ -111,7 +114,7 @@ pub fn next_after(c: ShortMonth, r: Rule, days: &[u32], j: usize) -> usize
         return week_after(c, r, days, j);
     }
     let p = days[j];
-    if r.last <= p / 256 {
+    if r.last <= date_in(p) {
         return days.len();
     }
     next_from(c, r, days, j + gap_of(r.kind))

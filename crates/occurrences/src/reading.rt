@@ -3,7 +3,7 @@ ghost use mathlib.Core.Path.{_≡_};
 ghost use Rattle.records.specs.Fields.{recordOf};
 ghost use Rattle.occurrences.specs.Rules.{repeated, ruleOf};
 use crate::types::Rule;
-use day_steps::packing::date_code;
+use day_steps::codes::date_code;
 use records::fields::dated_of;
 use records::fields::monthly_by_date_of;
 use records::fields::monthly_by_position_of;

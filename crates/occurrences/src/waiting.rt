@@ -2,14 +2,19 @@
 ghost use mathlib.Core.Path.{_≡_};
 ghost use Rattle.occurrences.specs.Rules.{toMonth, toDay, toWeekday, toDate, waitFor};
 use crate::types::Rule;
+use day_steps::codes::date_in;
+use day_steps::codes::day_in;
+use day_steps::codes::month_in;
+use day_steps::codes::month_length_in;
+use day_steps::codes::weekday_in;
 
 const LONGEST_WAIT: u32 = 366;
 
 fn to_month(p: u32) -> u32
     ensures { λ r. ⌜ r ≡ toMonth p ⌝ }
 {
-    let length = p % 32;
-    let day = p / 256 % 32;
+    let length = month_length_in(p);
+    let day = day_in(p);
     if day < length {
         return length - day + 1;
     }
@@ -19,8 +24,8 @@ fn to_month(p: u32) -> u32
 fn to_day(p: u32, day: u32) -> u32
     ensures { λ r. ⌜ r ≡ toDay p day ⌝ }
 {
-    let length = p % 32;
-    let today = p / 256 % 32;
+    let length = month_length_in(p);
+    let today = day_in(p);
     if length < day {
         if today < length {
             return length - today;
@@ -36,7 +41,7 @@ fn to_day(p: u32, day: u32) -> u32
 fn to_weekday(p: u32, weekday: u32) -> u32
     ensures { λ r. ⌜ r ≡ toWeekday p weekday ⌝ }
 {
-    let today = p / 32 % 8;
+    let today = weekday_in(p);
     if today < weekday {
         return (weekday - today - 1) % 7 + 1;
     }
@@ -49,7 +54,7 @@ fn to_weekday(p: u32, weekday: u32) -> u32
 fn to_date(p: u32, date: u32) -> u32
     ensures { λ r. ⌜ r ≡ toDate p date ⌝ }
 {
-    let today = p / 256;
+    let today = date_in(p);
     if today < date {
         let month = to_month(p);
         if date - today < month {
@@ -63,7 +68,7 @@ fn to_date(p: u32, date: u32) -> u32
 pub fn wait_for(r: Rule, p: u32) -> u32
     ensures { λ z. ⌜ z ≡ waitFor r p ⌝ }
 {
-    if r.last <= p / 256 {
+    if r.last <= date_in(p) {
         return LONGEST_WAIT;
     }
     if r.kind == 2 {
@@ -79,7 +84,7 @@ pub fn wait_for(r: Rule, p: u32) -> u32
         return to_weekday(p, r.a);
     }
     if r.kind == 5 {
-        if p / 8192 % 16 == r.a {
+        if month_in(p) == r.a {
             return to_day(p, r.b);
         }
         return to_month(p);

@@ -1,6 +1,6 @@
 -- Laws of codes: what a day's code holds, and that dates in order have codes in order.
 -- Assumes nothing.
-use Prim.Native.Nat.{ℕ, _/_, _%_, _≤_}
+use Prim.Native.Nat.{ℕ, _/_, _%_, _<_, _≤_}
 use mathlib.Core.Path.{_≡_, refl, sym, _∙_}
 use mathlib.Core.Bool.{Bool}
 use native.Mathlib.Omega.{arith}
@@ -13,7 +13,7 @@ use Rattle.days.specs.Laws.Dates.{length-bounds}
 use Rattle.days.specs.Laws.Days.{valid-date, weekday-formula}
 use Rattle.days.specs.declared.types.Date.{Date}
 use Rattle.days.specs.declared.types.DayFacts.{DayFacts}
-use Rattle.day_steps.specs.Codes.{dateCode, dayCode, dateIn, monthIn, dayIn, weekdayIn, monthLengthIn, FitsCode, Known}
+use Rattle.day_steps.specs.Codes.{dateCode, dateOfCode, dayCode, dateIn, monthIn, dayIn, weekdayIn, monthLengthIn, FitsCode, Known}
 
 pub valid-fits : {d : Date} → RealDate d → FitsCode d
 valid-fits {d} v = let m = length-bounds (d .year) (d .month) (v .january) (v .december) in omega arith
@@ -26,6 +26,15 @@ pub record Parts (d : Date) (q : ℕ) : Type 0 where
 
 pub date-code-parts : {d : Date} → FitsCode d → Parts d (dateCode d)
 date-code-parts {d} v = omega arith
+
+-- a date's code gives the date back
+in-16-bits : {a year : ℕ} → a ≡ year → year < 65536 → a % 65536 ≡ year
+in-16-bits e h = omega arith
+
+pub date-of-code : {d : Date} → FitsCode d → d .year < 65536 → dateOfCode (dateCode d) ≡ d
+date-of-code {d} v h =
+    let p = date-code-parts v in
+    λ i. record { year = in-16-bits (p .year) h i; month = p .month i; day = p .day i }
 
 pub facts-known : (n : ℕ) → n ≤ lastDay → Known (factsOf n)
 unfolding factsOf

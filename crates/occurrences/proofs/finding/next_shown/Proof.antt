@@ -33,15 +33,15 @@ passed : (l : tie.At-loop Inv-loop μ-loop) → Free (l .before .before .args .c
 passed l = free-join _ _ (free-before _ _ (l .before .start-of .ensures)) (l .loop .inv .2)
 
 -- the present day does not show
-here : (c : tie.Else2 Inv-loop μ-loop) → search-shown (c .before .before .before .before .before .before .before .args .c) (c .before .before .before .before .before .before .before .args .r) (c .before .before .before .before .before .loop .g .day .0) ≡ false
+here : (c : tie.Else2 Inv-loop μ-loop) → search-shown (c .before .before .before .before .before .before .before .before .args .c) (c .before .before .before .before .before .before .before .before .args .r) (c .before .before .before .before .before .before .loop .g .day .0) ≡ false
 here c =
-    let a = c .before .before .before .before .before .before .before .args in
-    ap (λ (p : ℕ). ruleShows (a .c) (a .r) p) (sym (code (c .before .before .before .before))) ∙ sym (c .before .rule-shows .ensures) ∙ c .if2 .left
-
-waits : (c : tie.After-wait-for Inv-loop μ-loop) → c .wait-for .result ≡ waitFor (c .before .before .before .before .before .before .before .before .args .r) (dayCode (factsOf (c .before .before .before .before .before .before .loop .g .day .0)))
-waits c =
     let a = c .before .before .before .before .before .before .before .before .args in
-    c .wait-for .ensures ∙ ap (λ (p : ℕ). waitFor (a .r) p) (code (c .before .before .before .before .before))
+    ap (λ (p : ℕ). ruleShows (a .c) (a .r) p) (sym (code (c .before .before .before .before .before))) ∙ sym (c .before .rule-shows .ensures) ∙ c .if2 .left
+
+waits : (c : tie.After-wait-for Inv-loop μ-loop) → c .wait-for .result ≡ waitFor (c .before .before .before .before .before .before .before .before .before .args .r) (dayCode (factsOf (c .before .before .before .before .before .before .before .loop .g .day .0)))
+waits c =
+    let a = c .before .before .before .before .before .before .before .before .before .args in
+    c .wait-for .ensures ∙ ap (λ (p : ℕ). waitFor (a .r) p) (code (c .before .before .before .before .before .before))
 
 start-of-requires : tie.Need-start-of-requires Inv-loop μ-loop
 start-of-requires c κs = search needs
@@ -52,10 +52,13 @@ loop-holds c = (c .start-of .ensures .at, omega arith, λ d l m. absurd (omega a
 day-code-requires : tie.Need-day-code-requires Inv-loop μ-loop
 day-code-requires c κs = at-known (c .loop .inv .0) (omega arith)
 
+date-in-requires : tie.Need-date-in-requires Inv-loop μ-loop
+date-in-requires c κs = search needs
+
 returns : tie.Need-returns Inv-loop μ-loop
 returns c =
-    let l = c .before .before .before in
-    let e = code (c .before .before) in
+    let l = c .before .before .before .before in
+    let e = code (c .before .before .before) in
     let s = l .before .start-of .ensures .low in
     let h = l .loop .inv .0 .high in
     next-end (omega arith) (free-join _ _ (passed l) (free-after _ _ _ (omega arith)))
@@ -65,45 +68,45 @@ rule-shows-requires c κs = search needs
 
 returns-2 : tie.Need-returns-2 Inv-loop μ-loop
 returns-2 c =
-    let l = c .before .before .before .before .before in
+    let l = c .before .before .before .before .before .before in
     let a = l .before .before .args in
     let s = l .before .start-of .ensures .low in
     next-hit (omega arith) (omega (arith, l .loop .inv .0 .high)) (passed l)
-    (ap (λ (p : ℕ). ruleShows (a .c) (a .r) p) (sym (code (c .before .before .before .before))) ∙ sym (c .before .rule-shows .ensures) ∙ c .if2 .taken)
+    (ap (λ (p : ℕ). ruleShows (a .c) (a .r) p) (sym (code (c .before .before .before .before .before))) ∙ sym (c .before .rule-shows .ensures) ∙ c .if2 .taken)
 
 wait-for-requires : tie.Need-wait-for-requires Inv-loop μ-loop
 wait-for-requires c κs = search needs
 
 sub-ahead : tie.Need-sub-ahead Inv-loop μ-loop
-sub-ahead c = c .before .before .before .before .before .before .before .loop .inv .0 .high
+sub-ahead c = c .before .before .before .before .before .before .before .before .loop .inv .0 .high
 
 cast-ahead : tie.Need-cast-ahead Inv-loop μ-loop
 cast-ahead c = omega arith
 
 returns-3 : tie.Need-returns-3 Inv-loop μ-loop
 returns-3 c =
-    let l = c .before .before .before .before .before .before .before .before in
+    let l = c .before .before .before .before .before .before .before .before .before in
     let s = l .before .start-of .ensures .low in
     let h = l .loop .inv .0 .high in
     let w = waits (c .before .before) in
     next-end (omega arith) (free-join _ _ (passed l) (free-wait _ _ _ (here (c .before .before .before)) (omega arith) (omega arith)))
 
 cast-days-later : tie.Need-cast-days-later Inv-loop μ-loop
-cast-days-later c = let h = c .before .before .before .before .before .before .before .before .loop .inv .0 .high in omega arith
+cast-days-later c = let h = c .before .before .before .before .before .before .before .before .before .loop .inv .0 .high in omega arith
 
 days-later-requires : tie.Need-days-later-requires Inv-loop μ-loop
-days-later-requires c κs = let i = c .before .before .before .before .before .before .before .before .loop .inv .0 in let h = i .high in record { facts = i .facts; high = omega arith }
+days-later-requires c κs = let i = c .before .before .before .before .before .before .before .before .before .loop .inv .0 in let h = i .high in record { facts = i .facts; high = omega arith }
 
 loop-less : tie.Need-loop-less Inv-loop μ-loop
 loop-less c =
-    let l = c .before .before .before .before .before .before .before .before .before in
+    let l = c .before .before .before .before .before .before .before .before .before .before in
     let h = l .loop .inv .0 .high in
     let d = day-is (c .days-later .ensures) in
     omega (arith, wait-least (l .before .before .args .r) (dayCode (factsOf (l .loop .g .day .0))), waits (c .before .before .before))
 
 loop-again : tie.Need-loop-again Inv-loop μ-loop
 loop-again c =
-    let l = c .before .before .before .before .before .before .before .before .before in
+    let l = c .before .before .before .before .before .before .before .before .before .before in
     let h = l .loop .inv .0 .high in
     let d = day-is (c .days-later .ensures) in
     let w = waits (c .before .before .before) in
@@ -118,6 +121,7 @@ next-shown-spec =
     start-of-requires
     loop-holds
     day-code-requires
+    date-in-requires
     returns
     rule-shows-requires
     returns-2

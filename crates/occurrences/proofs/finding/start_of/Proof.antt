@@ -9,20 +9,14 @@ use Rattle.occurrences.proofs.finding.start_of.Tie as tie
 date-code-requires : tie.Need-date-code-requires
 date-code-requires c κs = search needs
 
-cast-t8 : tie.Need-cast-t8
-cast-t8 c = search needs
-
-cast-t11 : tie.Need-cast-t11
-cast-t11 c = search needs
-
-cast-t13 : tie.Need-cast-t13
-cast-t13 c = search needs
+date-of-code-requires : tie.Need-date-of-code-requires
+date-of-code-requires c κs = search needs
 
 to-date-requires : tie.Need-to-date-requires
 to-date-requires c κs = search needs
 
 returns : tie.Need-returns
-returns c = reaches-most (omega arith) (c .to-date .ensures)
+returns c = reaches-most (omega arith) (rw (c .before .date-of-code .ensures) at (c .to-date .ensures))
 
 returns-2 : tie.Need-returns-2
 returns-2 c = search needs
@@ -30,4 +24,4 @@ returns-2 c = search needs
 pub start-of-spec : {M : Type 1} → statement M
 start-of-spec =
     tie.close
-    (tie.spec date-code-requires cast-t8 cast-t11 cast-t13 to-date-requires returns returns-2)
+    (tie.spec date-code-requires date-of-code-requires to-date-requires returns returns-2)

@@ -18,9 +18,12 @@ mul-p c = search needs
 shared-slice-read-p : tie.Need-shared-slice-read-p
 shared-slice-read-p c = search needs
 
+date-in-requires : tie.Need-date-in-requires
+date-in-requires c κs = search needs
+
 returns-2 : tie.Need-returns-2
 returns-2 c =
-    let s = c .before .before .before .before .before .before in
+    let s = c .before .before .before .before .before .before .before in
     let a = s .args in
     after-last (s .pre .0 .spanned) (a .c) (a .r) (a .j) (omega arith) (omega arith)
 
@@ -29,7 +32,7 @@ gap-of-requires c κs = search needs
 
 add-next-from : tie.Need-add-next-from
 add-next-from c =
-    let s = c .before .before .before .before .before .before .before in
+    let s = c .before .before .before .before .before .before .before .before in
     omega (arith, c .gap-of .ensures, gap-bounds (s .args .r .kind) .most)
 
 next-from-requires : tie.Need-next-from-requires
@@ -37,7 +40,7 @@ next-from-requires c κs = search needs
 
 returns-3 : tie.Need-returns-3
 returns-3 c =
-    let t = c .before .before .before .before .before in
+    let t = c .before .before .before .before .before .before in
     let s = t .before .before .before in
     let a = s .args in
     after-gap (s .pre .0 .spanned) (a .c) (a .r) (a .j) (omega arith) (t .if1 .left) (s .pre .1 .1) (c .before .gap-of .ensures) (c .next-from .ensures)
@@ -50,6 +53,7 @@ next-after-spec =
     returns
     mul-p
     shared-slice-read-p
+    date-in-requires
     returns-2
     gap-of-requires
     add-next-from

@@ -14,6 +14,9 @@ returns c = search needs
 shared-slice-read-p : tie.Need-shared-slice-read-p
 shared-slice-read-p c = search needs
 
+date-in-requires : tie.Need-date-in-requires
+date-in-requires c κs = search needs
+
 returns-2 : tie.Need-returns-2
 returns-2 c = search needs
 
@@ -26,9 +29,12 @@ mul-q c = search needs
 shared-slice-read-q : tie.Need-shared-slice-read-q
 shared-slice-read-q c = search needs
 
+date-in-requires-2 : tie.Need-date-in-requires-2
+date-in-requires-2 c κs = search needs
+
 returns-3 : tie.Need-returns-3
 returns-3 c =
-    let s = c .before .before .before .before .before .before in
+    let s = c .before .before .before .before .before .before .before .before in
     ahead-all (s .pre) (length (s .args .days .now) - 1) (omega arith) (omega arith)
 
 count-to-requires : tie.Need-count-to-requires
@@ -49,10 +55,13 @@ mul-t c = search needs
 shared-slice-read-t : tie.Need-shared-slice-read-t
 shared-slice-read-t c = search needs
 
+date-in-requires-3 : tie.Need-date-in-requires-3
+date-in-requires-3 c κs = search needs
+
 returns-4 : tie.Need-returns-4
 returns-4 c =
-    let w = c .before .before .before in
-    ahead-at (w .before .before .before .before .before .before .before .before .pre) (w .wrapping-sub-usize .result) (omega arith) (omega arith)
+    let w = c .before .before .before .before in
+    ahead-at (w .before .before .before .before .before .before .before .before .before .before .pre) (w .wrapping-sub-usize .result) (omega arith) (omega arith)
 
 returns-5 : tie.Need-returns-5
 returns-5 c = search needs
@@ -66,10 +75,12 @@ on-to-spec =
     (tie.spec
     returns
     shared-slice-read-p
+    date-in-requires
     returns-2
     sub-last
     mul-q
     shared-slice-read-q
+    date-in-requires-2
     returns-3
     count-to-requires
     cast-count
@@ -77,6 +88,7 @@ on-to-spec =
     wrapping-sub-usize-requires
     mul-t
     shared-slice-read-t
+    date-in-requires-3
     returns-4
     returns-5
     returns-6)

@@ -11,7 +11,7 @@ add-k c = search needs
 
 returns : tie.Need-returns
 returns c =
-    let s = c .before in
+    let s = c .before .before in
     let a = s .args in
     week-days (s .pre .0 .spanned) (a .c) (a .r) (a .j) (omega arith) (s .pre .1 .1 .0) (s .pre .1 .1 .1) (omega arith)
 
@@ -21,17 +21,22 @@ mul-q c = search needs
 shared-slice-read-q : tie.Need-shared-slice-read-q
 shared-slice-read-q c = search needs
 
+date-in-requires : tie.Need-date-in-requires
+date-in-requires c κs = search needs
+
 returns-2 : tie.Need-returns-2
 returns-2 c =
-    let s = c .before .before .before .before in
+    let s = c .before .before .before .before .before .before in
     let a = s .args in
     week-dates (s .pre .0 .spanned) (a .c) (a .r) (a .j) (omega arith) (s .pre .1 .1 .0) (s .pre .1 .1 .1) (omega arith) (omega arith)
 
 returns-3 : tie.Need-returns-3
 returns-3 c =
-    let s = c .before .before .before .before in
+    let s = c .before .before .before .before .before .before in
     let a = s .args in
     week-shows (s .pre .0 .spanned) (a .c) (a .r) (a .j) (omega arith) (s .pre .1 .1 .0) (s .pre .1 .1 .1) (omega arith) (omega arith)
 
 pub week-after-spec : {M : Type 1} → statement M
-week-after-spec = tie.close (tie.spec add-k returns mul-q shared-slice-read-q returns-2 returns-3)
+week-after-spec =
+    tie.close
+    (tie.spec add-k returns mul-q shared-slice-read-q date-in-requires returns-2 returns-3)

@@ -3,10 +3,13 @@
 use Rattle.occurrences.specs.Rules.{toDate}
 use native.Mathlib.Omega.{arith}
 use mathlib.Core.Path.{refl}
-use Rattle.prelude.specs.Laws.Choice.{picks, lt-yes, lt-no}
+use Rattle.prelude.specs.Laws.Choice.{lt-yes, lt-no}
 use borrow.Author.Needs.{needs}
 use Rattle.occurrences.proofs.waiting.to_date.Statement.{statement}
 use Rattle.occurrences.proofs.waiting.to_date.Tie as tie
+
+date-in-requires : tie.Need-date-in-requires
+date-in-requires c κs = search needs
 
 to-month-requires : tie.Need-to-month-requires
 to-month-requires c κs = search needs
@@ -19,7 +22,7 @@ sub-result c = search needs
 
 returns : tie.Need-returns
 unfolding toDate
-returns c = lt-yes _ _ _ (omega arith) (lt-yes _ _ _ (omega arith) refl)
+returns c = lt-yes _ _ _ (omega arith) (lt-yes _ _ _ (omega arith) (omega arith))
 
 returns-2 : tie.Need-returns-2
 unfolding toDate
@@ -27,8 +30,9 @@ returns-2 c = lt-yes _ _ _ (omega arith) (lt-no _ _ _ (omega arith) (c .before .
 
 returns-3 : tie.Need-returns-3
 unfolding toDate
-returns-3 c = search picks depth 25 fits 3000
+returns-3 c = lt-no _ _ _ (omega arith) refl
 
 pub to-date-spec : {M : Type 1} → statement M
 to-date-spec =
-    tie.close (tie.spec to-month-requires sub-if2 sub-result returns returns-2 returns-3)
+    tie.close
+    (tie.spec date-in-requires to-month-requires sub-if2 sub-result returns returns-2 returns-3)
