@@ -4,8 +4,7 @@ ghost use Prim.Native.Nat.{_+_, _-_, _≤_};
 ghost use Rattle.days.specs.Days.{dayNumber};
 ghost use Rattle.days.specs.Facts.{factsOf};
 ghost use Rattle.days.specs.Dates.{RealDate};
-ghost use Rattle.day_steps.specs.Codes.{dateCode};
-ghost use Rattle.day_steps.specs.Moves.{FactsAt, Reaches};
+ghost use Rattle.day_steps.specs.Moves.{FactsAt, movedTo};
 use days::answers::DayAnswer;
 use days::dates::month_days;
 use days::facts::next_facts;
@@ -72,10 +71,9 @@ fn facts_at(d: Date, n: CalendarDay) -> DayFacts
     }
 }
 
-// On to a date; the facts stay where it is not ahead.
-pub fn to_date(f: DayFacts, d: Date) -> DayFacts
-    requires { ⌜ FactsAt f (f .day .0) ⌝ }
-    ensures { λ r. ⌜ Reaches f (dateCode d) r ⌝ }
+// On to a date; the facts stay where it is not real or not ahead.
+pub fn moved_to(f: DayFacts, d: Date) -> DayFacts
+    ensures { λ r. ⌜ r ≡ movedTo f d ⌝ }
 {
     let a = day_of_date(d);
     match a {

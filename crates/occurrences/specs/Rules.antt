@@ -3,7 +3,9 @@
 use Prim.Native.Nat.{ℕ, _+_, _-_, _/_, _%_}
 use mathlib.Core.Bool.{Bool, true, false}
 use Rattle.prelude.specs.Choice.{ifLt, ifEq, ifB}
-use Rattle.day_steps.specs.Codes.{dateCode, dateIn, monthIn, dayIn, weekdayIn, monthLengthIn}
+use Rattle.days.specs.declared.types.DayFacts.{DayFacts}
+use Rattle.day_steps.specs.Codes.{dateCode, dateOfCode, dateIn, monthIn, dayIn, weekdayIn, monthLengthIn}
+use Rattle.day_steps.specs.Moves.{movedTo}
 use Rattle.records.specs.declared.types.Repeat.{Repeat}
 use Rattle.records.specs.declared.types.Record.{Record}
 use Rattle.falls.specs.declared.types.ShortMonth.{ShortMonth}
@@ -46,6 +48,10 @@ inDates r p = ifLt (dateIn p) (r .first) false (ifLt (r .last) (dateIn p) false 
 -- whether a rule shows on the day of a code
 unfoldable pub ruleShows : ShortMonth → Rule → ℕ → Bool
 ruleShows c r p = ifB (onDate c r p) (inDates r p) false
+
+-- where the search for a rule's days begins: on its first date where that is ahead, else on the day of f
+unfoldable pub startFrom : Rule → DayFacts → DayFacts
+startFrom r f = ifLt (dateCode (f .date)) (r .first) (movedTo f (dateOfCode (r .first))) f
 
 -- the first of the next month is so many days off
 abbrev pub toMonth : ℕ → ℕ

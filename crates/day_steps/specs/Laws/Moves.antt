@@ -3,16 +3,18 @@
 use Prim.Native.Nat.{ℕ, _+_, _%_, _<_, _≤_}
 use mathlib.Core.Path.{_≡_, refl, sym, _∙_, ap}
 use native.Mathlib.Omega.{arith}
+use Rattle.prelude.specs.Laws.Choice.{lt-elim, b-elim}
 use Rattle.days.specs.Days.{lastDay, dateOf, weekdayOf, dayNumber}
 use Rattle.days.specs.Facts.{factsWith, factsOf}
-use Rattle.days.specs.Dates.{RealDate}
+use Rattle.days.specs.Dates.{RealDate, real}
+use Rattle.days.specs.Laws.Dates.{valid-facts}
 use Rattle.days.specs.Laws.Days.{date-number, number-bound}
 use Rattle.days.specs.declared.types.Date.{Date}
 use Rattle.days.specs.declared.types.DayFacts.{DayFacts}
 use Rattle.day_steps.specs.Codes.{dateCode, Known}
 use Rattle.day_steps.specs.Laws.Codes.{facts-known}
 use Rattle.day_steps.specs.Laws.Months.{Later, in-month, in-length, weekday-later, code-less}
-use Rattle.day_steps.specs.Moves.{FactsAt, Reaches}
+use Rattle.day_steps.specs.Moves.{FactsAt, movedTo}
 
 -- the day of a day's facts
 pub day-at : (n : ℕ) → factsOf n .day .0 ≡ n
@@ -65,7 +67,13 @@ facts-on {d} {n} v e =
 date-on : {d : Date} {n : ℕ} → RealDate d → dayNumber d ≡ n → factsOf n .date ≡ d
 date-on v e = ap (λ (x : DayFacts). x .date) (sym (facts-on v e))
 
-pub reaches-day : {f g : DayFacts} {d : Date} {n : ℕ} → RealDate d → dayNumber d ≡ n → f .day .0 < n → g ≡ factsOf n → Reaches f (dateCode d) g
+-- g are the facts of a day from that of f on, and all days passed over have dates before a code
+pub record Reaches (f : DayFacts) (code : ℕ) (g : DayFacts) : Type 0 where
+  pub at : FactsAt g (g .day .0)
+  pub low : f .day .0 ≤ g .day .0
+  pub before : (d : ℕ) → f .day .0 ≤ d → d < g .day .0 → dateCode (factsOf d .date) < code
+
+reaches-day : {f g : DayFacts} {d : Date} {n : ℕ} → RealDate d → dayNumber d ≡ n → f .day .0 < n → g ≡ factsOf n → Reaches f (dateCode d) g
 reaches-day {f} {g} {d} {n} v e l q =
     let b = number-bound v in
     let e′ : g .day .0 ≡ n = day-is q in
@@ -77,3 +85,16 @@ reaches-day {f} {g} {d} {n} v e l q =
 
 pub reaches-most : {f g : DayFacts} {a b : ℕ} → a ≤ b → Reaches f a g → Reaches f b g
 reaches-most h r = record { at = r .at; low = r .low; before = λ d l m. omega (arith, r .before d l m) }
+
+pub reaches-same : {f : DayFacts} (code : ℕ) → FactsAt f (f .day .0) → Reaches f code f
+reaches-same code a = record { at = a; low = omega arith; before = λ d l m. absurd (omega arith) }
+
+pub moved-reaches : {f : DayFacts} (d : Date) → FactsAt f (f .day .0) → Reaches f (dateCode d) (movedTo f d)
+unfolding movedTo
+moved-reaches {f} d a =
+    b-elim P (real d) _ _
+    (λ e. lt-elim P (f .day .0) (dayNumber d) _ _ (λ h. reaches-day (valid-facts e) refl h refl) (λ _. reaches-same (dateCode d) a))
+    (λ _. reaches-same (dateCode d) a)
+  where
+    P : DayFacts → Type 0
+    P g = Reaches f (dateCode d) g

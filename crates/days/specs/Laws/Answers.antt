@@ -2,9 +2,11 @@
 -- Assumes nothing.
 use Prim.Native.Nat.{ℕ, _+_, _-_, _<_, _≤_}
 use mathlib.Core.Path.{_≡_, sym, _∙_, ap}
+use mathlib.Core.Bool.{false}
 use native.Mathlib.Omega.{arith}
-use Rattle.prelude.specs.Laws.Choice.{is-lt, is-ge, is-true, lt-skip, b-take, constructors-differ}
+use Rattle.prelude.specs.Laws.Choice.{is-lt, is-ge, is-true, lt-skip, b-take, b-skip, constructors-differ}
 use Rattle.prelude.specs.Refusals.{outOfRange, refusal}
+use Rattle.prelude.specs.declared.refusals.Refusal.{Refusal}
 use Rattle.days.specs.Dates.{real, RealDate}
 use Rattle.days.specs.Days.{lastDay, dayNumber, dateOf}
 use Rattle.days.specs.Facts.{factsOf}
@@ -34,6 +36,10 @@ day-given {d} {n} e =
     let p = b-take (real d) _ _ (λ c. constructors-differ cc) e in
     let q : _≡_ {A = CalendarDay} (record { 0 = dayNumber d }) n = cc (p .1) in
     (valid-facts (p .0), ap (λ (m : CalendarDay). m .0) q)
+
+pub day-refused : (d : Date) {e : Refusal} → dayAnswer d ≡ DayAnswer.Refused e → real d ≡ false
+unfolding dayAnswer
+day-refused d e = b-skip (real d) _ _ (λ c. constructors-differ cc) e .0
 
 pub facts-given : {f : DayFacts} {n : CalendarDay} → factsAnswer n ≡ FactsAnswer.Facts f → (n .0 ≤ lastDay) × (factsOf (n .0) ≡ f)
 unfolding factsAnswer

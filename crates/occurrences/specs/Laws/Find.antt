@@ -8,13 +8,22 @@ use Rattle.prelude.specs.Laws.Choice.{lt-elim}
 use Rattle.days.specs.Days.{lastDay}
 use Rattle.days.specs.Facts.{factsOf}
 use Rattle.days.specs.declared.types.DayFacts.{DayFacts}
-use Rattle.day_steps.specs.Codes.{dayCode, dateIn}
+use Rattle.day_steps.specs.Codes.{dateCode, dateOfCode, dayCode, dateIn}
 use Rattle.day_steps.specs.Laws.Codes.{facts-known, day-code-holds}
-use Rattle.day_steps.specs.Moves.{Reaches}
+use Rattle.day_steps.specs.Moves.{FactsAt}
+use Rattle.day_steps.specs.Laws.Moves.{Reaches, reaches-most, reaches-same, moved-reaches}
 use Rattle.falls.specs.declared.types.ShortMonth.{ShortMonth}
-use Rattle.occurrences.specs.Rules.{ruleShows, waitFor}
+use Rattle.occurrences.specs.Rules.{ruleShows, startFrom, waitFor}
 use Rattle.occurrences.specs.Laws.Waits.{shows-out, not-yet, date-past, wait-not}
 use Rattle.occurrences.specs.declared.types.Rule.{Rule}
+
+-- the search passes over days before the rule's first date alone
+pub start-reaches : (r : Rule) {f : DayFacts} → FactsAt f (f .day .0) → Reaches f (r .first) (startFrom r f)
+unfolding startFrom
+start-reaches r {f} a =
+    lt-elim (λ (g : DayFacts). Reaches f (r .first) g) (dateCode (f .date)) (r .first) _ _
+    (λ _. reaches-most (omega arith) (moved-reaches (dateOfCode (r .first)) a))
+    (λ _. reaches-same (r .first) a)
 
 module _ (c : ShortMonth) (r : Rule) where
   -- whether the rule shows on a day

@@ -12,8 +12,8 @@ use Rattle.day_steps.specs.Codes.{dayCode}
 use Rattle.occurrences.specs.Rules.{ruleShows, waitFor}
 use Rattle.occurrences.specs.Laws.Waits.{wait-least}
 use Rattle.day_steps.specs.Moves.{FactsAt}
-use Rattle.day_steps.specs.Laws.Moves.{at-day, day-is, at-known}
-use Rattle.occurrences.specs.Laws.Find.{search-shown, Free, free-join, free-before, free-after, free-wait}
+use Rattle.day_steps.specs.Laws.Moves.{Reaches, at-day, day-is, at-known}
+use Rattle.occurrences.specs.Laws.Find.{start-reaches, search-shown, Free, free-join, free-before, free-after, free-wait}
 use Rattle.occurrences.specs.Laws.Next.{next-hit, next-end}
 use Rattle.occurrences.proofs.finding.next_shown.Statement.{statement}
 use Rattle.occurrences.proofs.finding.next_shown.Tie as tie
@@ -24,13 +24,17 @@ Inv-loop c r g₀ g = FactsAt g (g .day .0) × (g₀ .day .0 ≤ g .day .0) × F
 abbrev μ-loop : tie.MeasureT-loop
 μ-loop c r g₀ g = lastDay - g .day .0
 
+-- no day before the start has the first date
+reached : (c : tie.After-start-from Inv-loop μ-loop) → Reaches (c .before .args .f) (c .before .args .r .first) (c .start-from .result)
+reached c = rw (c .start-from .ensures) (start-reaches (c .before .args .r) (c .before .pre))
+
 -- the present day's code
 code : (c : tie.After-day-code Inv-loop μ-loop) → c .day-code .result ≡ dayCode (factsOf (c .before .loop .g .day .0))
 code c = c .day-code .ensures ∙ ap (λ (x : DayFacts). dayCode x) (c .before .loop .inv .0 .facts)
 
 -- no day before it shows
 passed : (l : tie.At-loop Inv-loop μ-loop) → Free (l .before .before .args .c) (l .before .before .args .r) (l .before .before .args .f .day .0) (l .loop .g .day .0)
-passed l = free-join _ _ (free-before _ _ (l .before .start-of .ensures)) (l .loop .inv .2)
+passed l = free-join _ _ (free-before _ _ (reached (l .before))) (l .loop .inv .2)
 
 -- the present day does not show
 here : (c : tie.Else2 Inv-loop μ-loop) → search-shown (c .before .before .before .before .before .before .before .before .args .c) (c .before .before .before .before .before .before .before .before .args .r) (c .before .before .before .before .before .before .loop .g .day .0) ≡ false
@@ -43,11 +47,11 @@ waits c =
     let a = c .before .before .before .before .before .before .before .before .before .args in
     c .wait-for .ensures ∙ ap (λ (p : ℕ). waitFor (a .r) p) (code (c .before .before .before .before .before .before))
 
-start-of-requires : tie.Need-start-of-requires Inv-loop μ-loop
-start-of-requires c κs = search needs
+start-from-requires : tie.Need-start-from-requires Inv-loop μ-loop
+start-from-requires c κs = search needs
 
 loop-holds : tie.Need-loop-holds Inv-loop μ-loop
-loop-holds c = (c .start-of .ensures .at, omega arith, λ d l m. absurd (omega arith))
+loop-holds c = (reached c .at, omega arith, λ d l m. absurd (omega arith))
 
 day-code-requires : tie.Need-day-code-requires Inv-loop μ-loop
 day-code-requires c κs = at-known (c .loop .inv .0) (omega arith)
@@ -59,7 +63,7 @@ returns : tie.Need-returns Inv-loop μ-loop
 returns c =
     let l = c .before .before .before .before in
     let e = code (c .before .before .before) in
-    let s = l .before .start-of .ensures .low in
+    let s = reached (l .before) .low in
     let h = l .loop .inv .0 .high in
     next-end (omega arith) (free-join _ _ (passed l) (free-after _ _ _ (omega arith)))
 
@@ -70,7 +74,7 @@ returns-2 : tie.Need-returns-2 Inv-loop μ-loop
 returns-2 c =
     let l = c .before .before .before .before .before .before in
     let a = l .before .before .args in
-    let s = l .before .start-of .ensures .low in
+    let s = reached (l .before) .low in
     next-hit (omega arith) (omega (arith, l .loop .inv .0 .high)) (passed l)
     (ap (λ (p : ℕ). ruleShows (a .c) (a .r) p) (sym (code (c .before .before .before .before .before))) ∙ sym (c .before .rule-shows .ensures) ∙ c .if2 .taken)
 
@@ -86,7 +90,7 @@ cast-ahead c = omega arith
 returns-3 : tie.Need-returns-3 Inv-loop μ-loop
 returns-3 c =
     let l = c .before .before .before .before .before .before .before .before .before in
-    let s = l .before .start-of .ensures .low in
+    let s = reached (l .before) .low in
     let h = l .loop .inv .0 .high in
     let w = waits (c .before .before) in
     next-end (omega arith) (free-join _ _ (passed l) (free-wait _ _ _ (here (c .before .before .before)) (omega arith) (omega arith)))
@@ -118,7 +122,7 @@ next-shown-spec =
     (tie.spec
     Inv-loop
     μ-loop
-    start-of-requires
+    start-from-requires
     loop-holds
     day-code-requires
     date-in-requires
