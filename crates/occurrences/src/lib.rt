@@ -1,7 +1,7 @@
 // The days on which a record falls, from one to the next: its rule as numbers, so that asking a day reads no file.
-pub mod asking;
+mod asking;
 pub mod finding;
 pub mod hits;
 pub mod reading;
 pub mod types;
-pub mod waiting;
+mod waiting;

@@ -56,7 +56,7 @@ pub fn word_high(s: &[u8], i: usize) -> u16
 }
 
 // What is left from a on.
-pub fn rest(s: &[u8], a: usize) -> &[u8]
+fn rest(s: &[u8], a: usize) -> &[u8]
     ensures { λ r. ⌜ now r ≡ drop a (now (s .entry)) ⌝ }
 {
     if a <= s.len() { &s[a..] } else { &s[..0] }

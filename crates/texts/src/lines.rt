@@ -20,7 +20,7 @@ fn to_zero(s: &[u8], start: usize) -> usize
 }
 
 // The same, four bytes a round.
-pub fn line_length(s: &[u8], start: usize) -> usize
+fn line_length(s: &[u8], start: usize) -> usize
     ensures { λ r. ⌜ r ≡ toZero (drop start (now (s .entry))) ⌝ }
 {
     if s.len() <= start {
@@ -60,7 +60,7 @@ pub fn line_count(s: &[u8]) -> usize
 }
 
 // The place where line k of a note begins; its end where there is no line k.
-pub fn line_start(s: &[u8], k: usize) -> usize
+fn line_start(s: &[u8], k: usize) -> usize
     ensures { λ r. ⌜ r ≡ lineStart (now (s .entry)) k ⌝ }
 {
     let mut left = k;
