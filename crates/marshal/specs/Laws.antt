@@ -1,2 +1,5 @@
 -- Laws of the definitions beside this folder, a file a topic.
 pub mod ChainAnswers
+pub mod Examples
+pub mod HandedOn
+pub mod RoundTrips

@@ -3,6 +3,7 @@ pub mod BookAnswers
 pub mod CalendarAnswers
 pub mod ChainAnswers
 pub mod DayAnswers
+pub mod HandedOn
 pub mod PageAnswers
 pub mod RecordAnswers
 pub mod RecordArguments
