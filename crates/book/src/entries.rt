@@ -3,7 +3,7 @@ ghost use mathlib.Core.Path.{_≡_};
 ghost use Prim.Native.Nat.{_<_, _≤_};
 ghost use lib.ListN.{length, getD};
 ghost use Rattle.book.specs.Walk.{nextPlace, bodyAt};
-ghost use Rattle.book.specs.Books.{entryAt, placesOf, recordFrom, recordAnswer, recordTextIn, recordNoteIn};
+ghost use Rattle.book.specs.Books.{entryAt, placesOf, mostBookBytes, recordFrom, recordAnswer, recordTextIn, recordNoteIn};
 ghost use Rattle.book.specs.Invariants.{AcceptedBook};
 ghost use Rattle.book.specs.Invariants.{RecordAt};
 ghost use Rattle.book.specs.Settings.{firstRecord};
@@ -19,9 +19,13 @@ use prelude::refusals::NO_SUCH_NUMBER;
 use prelude::refusals::Refusal;
 use prelude::slices::Stretch;
 use prelude::slices::part;
+use prelude::slices::word;
 use prelude::slices::word_in;
 use records::fields::fixed_of;
 use records::fields::record_of;
+
+// A record's type byte and length stand before its body.
+pub const HEAD: usize = 3;
 
 // The place after a record that a walk has judged: its bytes are there.
 pub fn next_place(file: &[u8], at: usize) -> usize
@@ -29,7 +33,7 @@ pub fn next_place(file: &[u8], at: usize) -> usize
     ensures { λ r. ⌜ r ≡ nextPlace (now (file .entry)) at ⌝ }
 {
     let l = word_in(file, at + 1) as usize;
-    at + 3 + l
+    at + HEAD + l
 }
 
 // Its body.
@@ -38,8 +42,17 @@ pub fn body_at(file: &[u8], at: usize) -> &[u8]
     ensures { λ r. ⌜ now r ≡ bodyAt (now (file .entry)) at ⌝ }
 {
     let l = word_in(file, at + 1) as usize;
-    let p = &file[at + 3..];
+    let p = &file[at + HEAD..];
     &p[..l]
+}
+
+// The same at any place; bytes past the end count as nothing.
+pub fn body_from(file: &[u8], at: usize) -> &[u8]
+    requires { ⌜ at ≤ mostBookBytes ⌝ }
+    ensures { λ r. ⌜ now r ≡ bodyAt (now (file .entry)) at ⌝ }
+{
+    let l = word(file, at + 1) as usize;
+    part(file, at + HEAD, l)
 }
 
 // Where its text and its note lie.
@@ -49,7 +62,7 @@ pub fn texts_at(file: &[u8], at: usize) -> Texts
 {
     let t = file[at];
     let l = word_in(file, at + 1) as usize;
-    let from = at + 3;
+    let from = at + HEAD;
     let next = from + l;
     let body = &file[from..next];
     let fixed = fixed_of(t);
@@ -75,7 +88,7 @@ fn entry_at(file: &[u8], at: usize) -> Entry
 {
     let t = file[at];
     let l = word_in(file, at + 1) as usize;
-    let from = at + 3;
+    let from = at + HEAD;
     let next = from + l;
     let record = record_of(t, &file[from..next]);
     let texts = texts_at(file, at);

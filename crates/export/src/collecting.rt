@@ -4,7 +4,7 @@ ghost use mathlib.Core.List.{map};
 ghost use Prim.Native.Nat.{_<_, _≤_};
 ghost use lib.ListN.{length, getD, take};
 ghost use Rattle.sorting.specs.Keep.{keep};
-ghost use Rattle.book.specs.Books.{entryAt, mostBookBytes, mostRecords};
+ghost use Rattle.book.specs.Books.{entryAt, mostRecords};
 ghost use Rattle.pages.specs.Pages.{numbered};
 ghost use Rattle.pages.specs.Invariants.{recordAt};
 ghost use Rattle.pages.specs.Codes.{code};
@@ -21,25 +21,11 @@ use falls::types::ShortMonth;
 use occurrences::hits::next_after;
 use occurrences::hits::next_from;
 use occurrences::hits::on_to;
-use occurrences::reading::rule_of;
 use occurrences::types::Rule;
 use pages::collecting::code_of;
-use pages::collecting::times_at;
-use pages::ordering::text_of;
-use prelude::slices::byte;
-use prelude::slices::part;
-use prelude::slices::word;
-
-// The rule of the record at a place.
-pub fn rule_at(file: &[u8], at: usize) -> Rule
-    requires { ⌜ at ≤ mostBookBytes ⌝ }
-    ensures { λ r. ⌜ r ≡ ruleOf (entryAt (now (file .entry)) at .«record») ⌝ }
-{
-    let t = byte(file, at);
-    let l = word(file, at + 1) as usize;
-    let p = part(file, at + 3, l);
-    rule_of(t, p)
-}
+use pages::places::rule_at;
+use pages::places::text_at;
+use pages::places::times_at;
 
 // Adds a weight to the sum of each day on which a rule shows; from is the first of them.
 fn add_hits(c: ShortMonth, r: Rule, days: &[u32], from: usize, w: u64, sums: &mut [u64])
@@ -82,7 +68,7 @@ fn take_in(
         ⌜ Added (λ k. ruleShows c r (getD (now (days .entry)) k 0)) (weighs (recordAt (now (file .entry)) number at)) (length (now (days .entry))) (now (sums .entry)) (now (sums .exit)) ⌝ }
 {
     let times = times_at(file, at);
-    let text = text_of(file, at);
+    let text = text_at(file, at);
     let w = weight_of(times.alarm, text.length);
     add_hits(c, r, days, from, w, sums);
     code_of(times.start.0, number, at)

@@ -12,12 +12,12 @@ ghost use Rattle.calendar_writer.specs.Sums.{rows};
 ghost use Rattle.calendar_writer.specs.Scatter.{Added, Roomy, scatter};
 ghost use Rattle.export.specs.Passes.{Sound, marked, soFar};
 ghost use Rattle.export.specs.Invariants.{ReadyToFill};
-use crate::collecting::rule_at;
 use crate::scattering::put_hits;
 use calendar_writer::placing::put_blanks;
 use calendar_writer::puts::put_appointment;
 use falls::types::ShortMonth;
 use pages::ordering::line_of;
+use pages::places::rule_at;
 use prelude::numbers::bit_of;
 use prelude::slices::part;
 

@@ -4,53 +4,15 @@ ghost use mathlib.Core.List.{map};
 ghost use Prim.Native.Nat.{_≤_, _<_};
 ghost use lib.ListN.{length, take};
 ghost use Rattle.sorting.specs.Keep.{keep};
-ghost use Rattle.book.specs.Invariants.{RecordAt};
-ghost use Rattle.book.specs.Books.{entryAt, mostBookBytes};
-ghost use Rattle.falls.specs.Falls.{falls};
-ghost use Rattle.falls.specs.Times.{timesOf};
 ghost use Rattle.pages.specs.Pages.{numbered, fallsOn, pageOn};
 ghost use Rattle.pages.specs.Codes.{codeWith, code};
 ghost use Rattle.pages.specs.Invariants.{ReadyBook};
+use crate::places::falls_at;
+use crate::places::start_at;
 use crate::types::Ready;
-use book::entries::body_at;
 use book::entries::next_place;
 use book::settings::FIRST_RECORD;
-use days::types::DayFacts;
-use falls::rules::falls_quickly;
-use falls::times::start_of;
-use falls::times::times_of;
 use falls::types::ShortMonth;
-use falls::types::Times;
-use prelude::slices::byte;
-use prelude::slices::part;
-use prelude::slices::word;
-
-// Whether the record at a place of an accepted book falls on a day.
-pub fn falls_at(file: &[u8], at: usize, c: ShortMonth, f: DayFacts) -> bool
-    requires { ⌜ RecordAt (now file) at ⌝ }
-    ensures { λ r. ⌜ r ≡ falls c f (entryAt (now (file .entry)) at .«record») ⌝ }
-{
-    falls_quickly(c, f, file[at], body_at(file, at))
-}
-
-// Its start minute.
-fn start_at(file: &[u8], at: usize) -> u16
-    requires { ⌜ RecordAt (now file) at ⌝ }
-    ensures { λ r. ⌜ r ≡ timesOf (entryAt (now (file .entry)) at .«record») .start .0 ⌝ }
-{
-    start_of(file[at], body_at(file, at))
-}
-
-// The times and the alarm mark of the record at a place.
-pub fn times_at(file: &[u8], at: usize) -> Times
-    requires { ⌜ at ≤ mostBookBytes ⌝ }
-    ensures { λ r. ⌜ r ≡ timesOf (entryAt (now (file .entry)) at .«record») ⌝ }
-{
-    let t = byte(file, at);
-    let l = word(file, at + 1) as usize;
-    let p = part(file, at + 3, l);
-    times_of(t, p)
-}
 
 // How many records fall on the day.
 pub fn count_lines(file: &[u8], c: ShortMonth, a: Ready) -> usize

@@ -3,5 +3,6 @@ pub mod collecting;
 pub mod lines;
 pub mod next;
 pub mod ordering;
+pub mod places;
 pub mod types;
 pub mod validating;

@@ -1,45 +1,30 @@
 // One record asked alone: whether it falls on a day, and when it falls next.
 ghost use mathlib.Core.Path.{_≡_};
-ghost use mathlib.Core.Bool.{true};
 ghost use Rattle.days.specs.Facts.{factsOf};
-ghost use Rattle.records.specs.Fields.{recordOf};
-ghost use Rattle.records.specs.Ranges.{recordOk};
-ghost use Rattle.book.specs.Books.{entryAt};
-ghost use Rattle.book.specs.Invariants.{RecordAt};
-ghost use Rattle.falls.specs.Falls.{falls};
+ghost use Rattle.day_steps.specs.Codes.{dayCode};
 ghost use Rattle.day_steps.specs.Moves.{FactsAt};
+ghost use Rattle.occurrences.specs.Rules.{ruleShows};
 ghost use Rattle.pages.specs.Answers.{fallsIn, nextIn, nextOccurrence, recordFalls};
 ghost use Rattle.pages.specs.Next.{nextOf};
 ghost use Rattle.pages.specs.Invariants.{ReadyBook};
 ghost use Rattle.pages.specs.Pages.{fallsOn};
+use crate::places::falls_there;
+use crate::places::rule_at;
 use crate::types::FallsAnswer;
 use crate::types::NextAnswer;
 use crate::types::Occurrence;
 use crate::types::Ready;
 use crate::types::Validated;
 use crate::validating::validate;
-use book::entries::body_at;
 use book::entries::place_of;
 use days::types::CalendarDay;
 use days::types::DAYS;
 use days::types::DayFacts;
-use falls::rules::falls_on;
 use falls::types::ShortMonth;
 use occurrences::finding::next_shown;
-use occurrences::reading::rule_of;
+use occurrences::types::Rule;
 use prelude::refusals::NO_SUCH_NUMBER;
 use prelude::refusals::Refusal;
-use prelude::slices::byte;
-use prelude::slices::part;
-use prelude::slices::word;
-
-// Whether the record at a place of an accepted book falls on a day, asked once.
-fn falls_there(file: &[u8], at: usize, c: ShortMonth, f: DayFacts) -> bool
-    requires { ⌜ RecordAt (now file) at ⌝ }
-    ensures { λ r. ⌜ r ≡ falls c f (entryAt (now (file .entry)) at .«record») ⌝ }
-{
-    falls_on(c, f, file[at], body_at(file, at))
-}
 
 fn falls_in(file: &[u8], c: ShortMonth, k: usize, a: Ready) -> FallsAnswer
     requires { ⌜ ReadyBook (now file) a ⌝ }
@@ -67,15 +52,13 @@ pub fn record_falls(file: &[u8], k: usize, n: CalendarDay, c: ShortMonth) -> Fal
     }
 }
 
-// The first day from the given one on, on which the record of that type and body falls.
-fn search_on(t: u8, p: &[u8], c: ShortMonth, from: DayFacts) -> NextAnswer
+// The first day from the given one on, on which the rule shows.
+fn search_on(c: ShortMonth, r: Rule, from: DayFacts) -> NextAnswer
     requires { ⌜ FactsAt from (from .day .0) ⌝ }
-    requires { ⌜ recordOk (recordOf t (now p)) ≡ true ⌝ }
-    ensures { λ r. ⌜ r ≡ nextOf (λ d. falls c (factsOf d) (recordOf t (now (p .entry)))) (from .day .0) ⌝ }
+    ensures { λ z. ⌜ z ≡ nextOf (λ d. ruleShows c r (dayCode (factsOf d))) (from .day .0) ⌝ }
 {
     let first = from.day.0;
-    let rule = rule_of(t, p);
-    let day = next_shown(c, rule, from);
+    let day = next_shown(c, r, from);
     if day < DAYS {
         return NextAnswer::Found(Occurrence {
             day: CalendarDay(day),
@@ -91,11 +74,8 @@ fn next_in(file: &[u8], c: ShortMonth, k: usize, a: Ready) -> NextAnswer
 {
     if k < a.records {
         let at = place_of(file, k);
-        let t = byte(file, at);
-        let l = word(file, at + 1) as usize;
-        let p = part(file, at + 3, l);
         let f = a.facts;
-        return search_on(t, p, c, f);
+        return search_on(c, rule_at(file, at), f);
     }
     NextAnswer::Refused(Refusal {
         number: NO_SUCH_NUMBER,

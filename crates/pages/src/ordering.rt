@@ -3,21 +3,15 @@ ghost use mathlib.Core.Path.{_≡_};
 ghost use mathlib.Core.List.{map};
 ghost use Prim.Native.Nat.{_≤_};
 ghost use lib.ListN.{length, take};
-ghost use Rattle.book.specs.Books.{entryAt, mostBookBytes};
 ghost use Rattle.pages.specs.Pages.{pageOn, pageLineOf};
 ghost use Rattle.pages.specs.Codes.{code as codeOf, decode};
 ghost use Rattle.pages.specs.Invariants.{ReadyBook};
 use crate::collecting::collect;
-use crate::collecting::times_at;
+use crate::places::text_at;
+use crate::places::times_at;
 use crate::types::Line;
 use crate::types::Ready;
 use falls::types::ShortMonth;
-use prelude::slices::Stretch;
-use prelude::slices::byte;
-use prelude::slices::part;
-use prelude::slices::word;
-use records::fields::fixed_of;
-use records::fields::text_length;
 use sorting::ordering::order_codes;
 
 // The codes of a day's page, in its order, from the first of the lent ones on.
@@ -39,20 +33,6 @@ pub fn page_codes(
     n
 }
 
-// Where the text of the record at a place lies.
-pub fn text_of(file: &[u8], at: usize) -> Stretch
-    requires { ⌜ at ≤ mostBookBytes ⌝ }
-    ensures { λ r. ⌜ r ≡ entryAt (now (file .entry)) at .text ⌝ }
-{
-    let t = byte(file, at);
-    let l = word(file, at + 1) as usize;
-    let p = part(file, at + 3, l);
-    Stretch {
-        place: at + 3 + fixed_of(t),
-        length: text_length(t, p) as usize,
-    }
-}
-
 // The line of a code.
 pub fn line_of(file: &[u8], code: u64) -> Line
     ensures { λ r. ⌜ r ≡ pageLineOf (decode (now (file .entry)) code) ⌝ }
@@ -62,7 +42,7 @@ pub fn line_of(file: &[u8], code: u64) -> Line
     let times = times_at(file, at);
     let start = times.start;
     let end = times.end;
-    let text = text_of(file, at);
+    let text = text_at(file, at);
     Line {
         number,
         start,

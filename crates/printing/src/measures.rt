@@ -15,8 +15,8 @@ use book::settings::FIRST_RECORD;
 use days::types::DayFacts;
 use digits::puts::decimal_length;
 use falls::types::ShortMonth;
-use pages::collecting::falls_at;
-use pages::ordering::text_of;
+use pages::places::falls_at;
+use pages::places::text_at;
 use pages::types::Ready;
 use prelude::slices::part;
 
@@ -25,7 +25,7 @@ fn line_size(file: &[u8], at: usize) -> usize
     requires { ⌜ at ≤ mostBookBytes ⌝ }
     ensures { λ r. ⌜ r ≡ 13 + length (stretchBytes (now (file .entry)) (entryAt (now (file .entry)) at .text)) ⌝ }
 {
-    let s = text_of(file, at);
+    let s = text_at(file, at);
     let text = part(file, s.place, s.length);
     13 + text.len()
 }

@@ -49,6 +49,16 @@ module _ (p : ℕ → Bool) (asked : ℕ) where
       from-past (n - asked) asked (omega arith) (λ b l m. x .none b l (omega arith)) ∙ ap from e
       ∙ lt-elim (λ z. from n ≡ z) n (lastDay + 1) _ _ (λ l. from-found n (omega arith) (x .hit l)) (λ g. let q : n ≡ lastDay + 1 = omega arith in ap from q ∙ from-end)
 
+-- tests that agree on the days left find the same
+first-same : (p q : ℕ → Bool) (asked k d : ℕ) → d + k ≡ lastDay + 1 → ((b : ℕ) → b ≤ lastDay → p b ≡ q b) → firstShown p asked k d ≡ firstShown q asked k d
+unfolding firstShown
+first-same p q asked zero d e h = refl
+first-same p q asked (suc k) d e h = rw (h d (omega arith), first-same p q asked k (suc d) (omega arith) h)
+
+pub next-same : (p q : ℕ → Bool) (asked : ℕ) → asked ≤ lastDay → ((d : ℕ) → d ≤ lastDay → p d ≡ q d) → nextOf p asked ≡ nextOf q asked
+unfolding nextOf
+next-same p q asked h e = first-same p q asked (lastDay + 1 - asked) asked (omega arith) e
+
 told-from :
     (p : ℕ → Bool) (asked k d : ℕ) → asked ≤ d → d + k ≡ lastDay + 1 → ((b : ℕ) → asked ≤ b → b < d → p b ≡ false)
     → Told p asked (firstShown p asked k d)

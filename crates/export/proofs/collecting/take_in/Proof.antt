@@ -18,13 +18,13 @@ use Rattle.export.proofs.collecting.take_in.Tie as tie
 times-at-requires : tie.Need-times-at-requires
 times-at-requires c κs = search needs
 
-text-of-requires : tie.Need-text-of-requires
-text-of-requires c κs = search needs
+text-at-requires : tie.Need-text-at-requires
+text-at-requires c κs = search needs
 
 weight-of-requires : tie.Need-weight-of-requires
 weight-of-requires c κs =
     let s = c .before .before .before .before .before in
-    omega (arith, ap (λ (t : Stretch). t .length) (c .text-of .ensures), s .pre .0 .short)
+    omega (arith, ap (λ (t : Stretch). t .length) (c .text-at .ensures), s .pre .0 .short)
 
 add-hits-requires : tie.Need-add-hits-requires
 add-hits-requires c κs =
@@ -32,7 +32,7 @@ add-hits-requires c κs =
     let t = w .before in
     let s = t .before .before .before .before .before in
     let p = s .pre .1 .1 .1 in
-    let l : t .text-of .result .length ≤ mostText = omega (arith, ap (λ (x : Stretch). x .length) (t .text-of .ensures), s .pre .0 .short) in
+    let l : t .text-at .result .length ≤ mostText = omega (arith, ap (λ (x : Stretch). x .length) (t .text-at .ensures), s .pre .0 .short) in
     (p .0, (p .1 .0, (p .1 .1 .0, (omega (arith, w .weight-of .ensures, bit-most (t .before .times-at .result .alarm)), p .1 .1 .1))))
 
 code-of-requires : tie.Need-code-of-requires
@@ -50,7 +50,7 @@ returns c =
     let f = s .args .file .now in
     let times = t .before .times-at .ensures in
     let weight : w .weight-of .result ≡ weighs (recordAt f (s .args .number) (s .args .at)) =
-    w .weight-of .ensures ∙ rw (times, t .text-of .ensures) in (
+    w .weight-of .ensures ∙ rw (times, t .text-at .ensures) in (
       c .code-of .ensures ∙ ap (λ (x : Times). codeWith (x .start .0) (s .args .number) (s .args .at)) times ∙ sym (code-at f (s .args .number) (s .args .at) (omega arith) (omega (arith, s .pre .0 .place))),
       rw weight at (h .add-hits .ensures),
     )
@@ -60,7 +60,7 @@ take-in-spec =
     tie.close
     (tie.spec
     times-at-requires
-    text-of-requires
+    text-at-requires
     weight-of-requires
     add-hits-requires
     code-of-requires

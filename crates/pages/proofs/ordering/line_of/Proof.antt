@@ -9,12 +9,12 @@ use Rattle.pages.proofs.ordering.line_of.Tie as tie
 times-at-requires : tie.Need-times-at-requires
 times-at-requires c κs = search needs
 
-text-of-requires : tie.Need-text-of-requires
-text-of-requires c κs = search needs
+text-at-requires : tie.Need-text-at-requires
+text-at-requires c κs = search needs
 
 returns : tie.Need-returns
 unfolding pageLineOf decode
 returns c = cc
 
 pub line-of-spec : {M : Type 1} → statement M
-line-of-spec = tie.close (tie.spec times-at-requires text-of-requires returns)
+line-of-spec = tie.close (tie.spec times-at-requires text-at-requires returns)

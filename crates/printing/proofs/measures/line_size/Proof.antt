@@ -10,8 +10,8 @@ use borrow.Author.Needs.{needs}
 use Rattle.printing.proofs.measures.line_size.Statement.{statement}
 use Rattle.printing.proofs.measures.line_size.Tie as tie
 
-text-of-requires : tie.Need-text-of-requires
-text-of-requires c κs = search needs
+text-at-requires : tie.Need-text-at-requires
+text-at-requires c κs = search needs
 
 part-requires : tie.Need-part-requires
 part-requires c κs = search needs
@@ -21,7 +21,7 @@ add-result c = search needs
 
 returns : tie.Need-returns
 returns c =
-    ap (λ (xs : List ℕ). 13 + length xs) (c .part .ensures ∙ ap (λ (s : Stretch). stretchBytes (c .before .before .before .args .file .now) s) (c .before .text-of .ensures))
+    ap (λ (xs : List ℕ). 13 + length xs) (c .part .ensures ∙ ap (λ (s : Stretch). stretchBytes (c .before .before .before .args .file .now) s) (c .before .text-at .ensures))
 
 pub line-size-spec : {M : Type 1} → statement M
-line-size-spec = tie.close (tie.spec text-of-requires part-requires add-result returns)
+line-size-spec = tie.close (tie.spec text-at-requires part-requires add-result returns)

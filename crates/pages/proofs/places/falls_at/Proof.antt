@@ -2,8 +2,8 @@
 -- Assumes nothing.
 use Rattle.book.specs.Books.{entryAt}
 use borrow.Author.Needs.{needs}
-use Rattle.pages.proofs.collecting.falls_at.Statement.{statement}
-use Rattle.pages.proofs.collecting.falls_at.Tie as tie
+use Rattle.pages.proofs.places.falls_at.Statement.{statement}
+use Rattle.pages.proofs.places.falls_at.Tie as tie
 
 shared-slice-read-falls-quickly : tie.Need-shared-slice-read-falls-quickly
 shared-slice-read-falls-quickly c = search needs

@@ -2,8 +2,8 @@
 -- Assumes nothing.
 use Rattle.book.specs.Books.{entryAt}
 use borrow.Author.Needs.{needs}
-use Rattle.pages.proofs.collecting.start_at.Statement.{statement}
-use Rattle.pages.proofs.collecting.start_at.Tie as tie
+use Rattle.pages.proofs.places.start_at.Statement.{statement}
+use Rattle.pages.proofs.places.start_at.Tie as tie
 
 shared-slice-read-start-of : tie.Need-shared-slice-read-start-of
 shared-slice-read-start-of c = search needs

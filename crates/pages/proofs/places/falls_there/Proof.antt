@@ -2,8 +2,8 @@
 -- Assumes nothing.
 use Rattle.book.specs.Books.{entryAt}
 use borrow.Author.Needs.{needs}
-use Rattle.pages.proofs.next.falls_there.Statement.{statement}
-use Rattle.pages.proofs.next.falls_there.Tie as tie
+use Rattle.pages.proofs.places.falls_there.Statement.{statement}
+use Rattle.pages.proofs.places.falls_there.Tie as tie
 
 shared-slice-read-falls-on : tie.Need-shared-slice-read-falls-on
 shared-slice-read-falls-on c = search needs

@@ -1,0 +1,76 @@
+// What stands at a place of an accepted book: whether it falls on a day, its times, its text, its rule.
+ghost use mathlib.Core.Path.{_≡_};
+ghost use Prim.Native.Nat.{_≤_};
+ghost use Rattle.book.specs.Invariants.{RecordAt};
+ghost use Rattle.book.specs.Books.{entryAt, mostBookBytes};
+ghost use Rattle.falls.specs.Falls.{falls};
+ghost use Rattle.falls.specs.Times.{timesOf};
+ghost use Rattle.occurrences.specs.Rules.{ruleOf};
+use book::entries::HEAD;
+use book::entries::body_at;
+use book::entries::body_from;
+use days::types::DayFacts;
+use falls::rules::falls_on;
+use falls::rules::falls_quickly;
+use falls::times::start_of;
+use falls::times::times_of;
+use falls::types::ShortMonth;
+use falls::types::Times;
+use occurrences::reading::rule_of;
+use occurrences::types::Rule;
+use prelude::slices::Stretch;
+use prelude::slices::byte;
+use records::fields::fixed_of;
+use records::fields::text_length;
+
+// Whether the record at a place falls on a day, for a pass over the book.
+pub fn falls_at(file: &[u8], at: usize, c: ShortMonth, f: DayFacts) -> bool
+    requires { ⌜ RecordAt (now file) at ⌝ }
+    ensures { λ r. ⌜ r ≡ falls c f (entryAt (now (file .entry)) at .«record») ⌝ }
+{
+    falls_quickly(c, f, file[at], body_at(file, at))
+}
+
+// The same, asked once.
+pub fn falls_there(file: &[u8], at: usize, c: ShortMonth, f: DayFacts) -> bool
+    requires { ⌜ RecordAt (now file) at ⌝ }
+    ensures { λ r. ⌜ r ≡ falls c f (entryAt (now (file .entry)) at .«record») ⌝ }
+{
+    falls_on(c, f, file[at], body_at(file, at))
+}
+
+// Its start minute.
+pub fn start_at(file: &[u8], at: usize) -> u16
+    requires { ⌜ RecordAt (now file) at ⌝ }
+    ensures { λ r. ⌜ r ≡ timesOf (entryAt (now (file .entry)) at .«record») .start .0 ⌝ }
+{
+    start_of(file[at], body_at(file, at))
+}
+
+// Its times and its alarm mark. From here on nothing is asked of the place but that it is one of a book.
+pub fn times_at(file: &[u8], at: usize) -> Times
+    requires { ⌜ at ≤ mostBookBytes ⌝ }
+    ensures { λ r. ⌜ r ≡ timesOf (entryAt (now (file .entry)) at .«record») ⌝ }
+{
+    times_of(byte(file, at), body_from(file, at))
+}
+
+// Where its text lies.
+pub fn text_at(file: &[u8], at: usize) -> Stretch
+    requires { ⌜ at ≤ mostBookBytes ⌝ }
+    ensures { λ r. ⌜ r ≡ entryAt (now (file .entry)) at .text ⌝ }
+{
+    let t = byte(file, at);
+    Stretch {
+        place: at + HEAD + fixed_of(t),
+        length: text_length(t, body_from(file, at)) as usize,
+    }
+}
+
+// Its rule.
+pub fn rule_at(file: &[u8], at: usize) -> Rule
+    requires { ⌜ at ≤ mostBookBytes ⌝ }
+    ensures { λ r. ⌜ r ≡ ruleOf (entryAt (now (file .entry)) at .«record») ⌝ }
+{
+    rule_of(byte(file, at), body_from(file, at))
+}
