@@ -22,7 +22,7 @@ use occurrences::hits::next_after;
 use occurrences::hits::next_from;
 use occurrences::hits::on_to;
 use occurrences::types::Rule;
-use pages::collecting::code_of;
+use pages::codes::code_of;
 use pages::places::rule_at;
 use pages::places::text_at;
 use pages::places::times_at;

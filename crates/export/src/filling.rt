@@ -1,10 +1,10 @@
 // Filling the blocks of a span: first each with its appointments left zero, then record by record each appointment on its days.
 ghost use mathlib.Core.Path.{_≡_};
-ghost use Prim.Native.Nat.{_+_, _%_, _<_, _≤_};
+ghost use Prim.Native.Nat.{_+_, _<_, _≤_};
 ghost use lib.ListN.{length};
 ghost use Rattle.prelude.specs.Bytes.{bit};
 ghost use Rattle.prelude.specs.Splice.{splice};
-ghost use Rattle.pages.specs.Codes.{decode};
+ghost use Rattle.pages.specs.Codes.{placeIn, decode};
 ghost use Rattle.calendar.specs.File.{appointmentBytes};
 ghost use Rattle.export.specs.Export.{specialTime, appointmentOf, showsUnder};
 ghost use Rattle.day_steps.specs.Codes.{Spanned};
@@ -16,6 +16,7 @@ use crate::scattering::put_hits;
 use calendar_writer::placing::put_blanks;
 use calendar_writer::puts::put_appointment;
 use falls::types::ShortMonth;
+use pages::codes::place_in;
 use pages::ordering::line_of;
 use pages::places::rule_at;
 use prelude::numbers::bit_of;
@@ -45,7 +46,7 @@ fn fill_code(
     out: &mut [u8],
 )
     requires { ⌜ 0 < interval ⌝ }
-    requires { ⌜ Sound (now file) (code % 65536) ⌝ }
+    requires { ⌜ Sound (now file) (placeIn code) ⌝ }
     requires { ⌜ Spanned first (now days) ⌝ }
     requires { ⌜ length (now places) ≡ length (now days) ⌝ }
     requires { ⌜ Roomy (λ k. marked c (now days) k (decode (now file) code)) (length (now days)) (length (appointmentBytes (appointmentOf (now file) interval (decode (now file) code)))) (now places) (length (now out)) ⌝ }
@@ -60,7 +61,7 @@ fn fill_code(
     let text = part(file, line.text.place, line.text.length);
     let mut piece = [0u8; 32];
     let size = put_appointment(&mut piece, 0, line.start, flags, text);
-    let r = rule_at(file, (code % 65536) as usize);
+    let r = rule_at(file, place_in(code));
     put_hits(c, r, first, days, &piece[..size], places, out);
 }
 

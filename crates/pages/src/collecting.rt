@@ -1,12 +1,13 @@
 // One pass over the book: the records that fall on a day, counted or collected as codes.
 ghost use mathlib.Core.Path.{_≡_};
 ghost use mathlib.Core.List.{map};
-ghost use Prim.Native.Nat.{_≤_, _<_};
+ghost use Prim.Native.Nat.{_≤_};
 ghost use lib.ListN.{length, take};
 ghost use Rattle.sorting.specs.Keep.{keep};
 ghost use Rattle.pages.specs.Pages.{numbered, fallsOn, pageOn};
-ghost use Rattle.pages.specs.Codes.{codeWith, code};
+ghost use Rattle.pages.specs.Codes.{code};
 ghost use Rattle.pages.specs.Invariants.{ReadyBook};
+use crate::codes::code_of;
 use crate::places::falls_at;
 use crate::places::start_at;
 use crate::types::Ready;
@@ -32,15 +33,6 @@ pub fn count_lines(file: &[u8], c: ShortMonth, a: Ready) -> usize
         }
     }
     count
-}
-
-// A record as one number: its start minute, its number and its place.
-pub fn code_of(start: u16, number: usize, place: usize) -> u64
-    requires { ⌜ number < 65536 ⌝ }
-    requires { ⌜ place < 65536 ⌝ }
-    ensures { λ r. ⌜ r ≡ codeWith start number place ⌝ }
-{
-    (start as u64) * 4294967296 + (number as u64) * 65536 + (place as u64)
 }
 
 // The codes of the records that fall on the day, in the book's order, from the first of the lent ones on.

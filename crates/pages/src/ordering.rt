@@ -6,6 +6,8 @@ ghost use lib.ListN.{length, take};
 ghost use Rattle.pages.specs.Pages.{pageOn, pageLineOf};
 ghost use Rattle.pages.specs.Codes.{code as codeOf, decode};
 ghost use Rattle.pages.specs.Invariants.{ReadyBook};
+use crate::codes::number_in;
+use crate::codes::place_in;
 use crate::collecting::collect;
 use crate::places::text_at;
 use crate::places::times_at;
@@ -37,8 +39,8 @@ pub fn page_codes(
 pub fn line_of(file: &[u8], code: u64) -> Line
     ensures { λ r. ⌜ r ≡ pageLineOf (decode (now (file .entry)) code) ⌝ }
 {
-    let number = (code / 65536 % 65536) as usize;
-    let at = (code % 65536) as usize;
+    let number = number_in(code);
+    let at = place_in(code);
     let times = times_at(file, at);
     let start = times.start;
     let end = times.end;

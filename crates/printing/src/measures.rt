@@ -15,6 +15,7 @@ use book::settings::FIRST_RECORD;
 use days::types::DayFacts;
 use digits::puts::decimal_length;
 use falls::types::ShortMonth;
+use pages::codes::place_in;
 use pages::places::falls_at;
 use pages::places::text_at;
 use pages::types::Ready;
@@ -70,7 +71,7 @@ fn lines_size(file: &[u8], codes: &[u64]) -> usize
     let mut bytes: usize = 0;
     let mut i: usize = 0;
     while i < codes.len() {
-        bytes += line_size(file, (codes[i] % 65536) as usize);
+        bytes += line_size(file, place_in(codes[i]));
         i += 1;
     }
     bytes

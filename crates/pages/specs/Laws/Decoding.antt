@@ -1,6 +1,6 @@
 -- A page is what its codes decode to.
 -- Assumes nothing.
-use Prim.Native.Nat.{ℕ, suc, _+_, _/_, _%_, _<_, _≤_}
+use Prim.Native.Nat.{ℕ, suc, _+_, _<_, _≤_}
 use mathlib.Core.Path.{_≡_, refl, sym, _∙_, ap}
 use mathlib.Core.Bool.{Bool}
 use mathlib.Core.Logic.{⊎-elim}
@@ -17,7 +17,7 @@ use Rattle.book.specs.Laws.Entries.{Reached, entry-reached}
 use Rattle.book.specs.Settings.{firstRecord}
 use Rattle.falls.specs.Times.{timesOf}
 use Rattle.pages.specs.Pages.{Numbered, numberedFrom, numbered, startOf, pageOf}
-use Rattle.pages.specs.Codes.{codeWith, code, decode}
+use Rattle.pages.specs.Codes.{codeWith, code, numberIn, placeIn, decode}
 use Rattle.pages.specs.Laws.Codes.{code-at}
 use Rattle.pages.specs.Invariants.{recordAt}
 
@@ -58,8 +58,8 @@ unfolding decode
 decode-at f n at h k =
     let s = timesOf (entryAt f at .«record») .start .0 in
     let e : code (recordAt f n at) ≡ codeWith s n at = code-at f n at h k in
-    let a : code (recordAt f n at) / 65536 % 65536 ≡ n = rw e (omega arith) in
-    let b : code (recordAt f n at) % 65536 ≡ at = rw e (omega arith) in
+    let a : numberIn (code (recordAt f n at)) ≡ n = rw e (omega arith) in
+    let b : placeIn (code (recordAt f n at)) ≡ at = rw e (omega arith) in
     same-record f a b
 
 module _ (f : List ℕ) (long : firstRecord ≤ length f) (size : length f ≤ mostBookBytes) where

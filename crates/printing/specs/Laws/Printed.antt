@@ -1,6 +1,6 @@
 -- Laws of the printed page: how long its lines are, and the lines one by one as codes give them.
 -- Assumes nothing.
-use Prim.Native.Nat.{ℕ, _+_, _%_, _<_, _≤_}
+use Prim.Native.Nat.{ℕ, _+_, _<_, _≤_}
 use mathlib.Core.Path.{_≡_, refl, sym, _∙_, ap}
 use mathlib.Core.Bool.{Bool}
 use mathlib.Core.List.{List, [], _∷_, _++_, map}
@@ -16,7 +16,7 @@ use Rattle.days.specs.declared.types.Date.{Date}
 use Rattle.days.specs.declared.types.DayFacts.{DayFacts}
 use Rattle.book.specs.Books.{entryAt}
 use Rattle.pages.specs.Pages.{Numbered, pageOf, pageLineOf}
-use Rattle.pages.specs.Codes.{code, decode}
+use Rattle.pages.specs.Codes.{code, placeIn, decode}
 use Rattle.pages.specs.Invariants.{ReadyBook}
 use Rattle.pages.specs.Laws.Decoding.{page-decoded}
 use Rattle.pages.specs.declared.types.Ready.{Ready}
@@ -84,7 +84,7 @@ lines-end f codes i h = rw (drop-of-length-le codes h)
 pub lines-on :
     (f codes : List ℕ) (i bytes : ℕ) → i < length codes
     → length (pageLines f (codedLines f codes)) ≡ bytes + length (pageLines f (codedLines f (drop i codes)))
-    → length (pageLines f (codedLines f codes)) ≡ bytes + (13 + length (stretchBytes f (entryAt f (getD codes i 0 % 65536) .text))) + length (pageLines f (codedLines f (drop (i + 1) codes)))
+    → length (pageLines f (codedLines f codes)) ≡ bytes + (13 + length (stretchBytes f (entryAt f (placeIn (getD codes i 0)) .text))) + length (pageLines f (codedLines f (drop (i + 1) codes)))
 unfolding pageLineOf decode
 lines-on f codes i bytes h e =
     let l = length-line f (pageLineOf (decode f (getD codes i 0))) in

@@ -9,13 +9,14 @@ use lib.ListN.{length, getD, take, drop, length-take}
 use lib.Seq.{length-take-le}
 use Rattle.prelude.specs.Bytes.{bit, part}
 use Rattle.prelude.specs.Laws.Splice.{take-splice}
+use Rattle.book.specs.Books.{entryAt}
 use Rattle.pages.specs.Pages.{pageLineOf}
-use Rattle.pages.specs.Codes.{decode}
+use Rattle.pages.specs.Codes.{placeIn, decode}
 use Rattle.pages.specs.declared.types.Line.{Line}
 use Rattle.calendar.specs.File.{Appointment, appointmentBytes}
 use Rattle.export.specs.Export.{specialTime, appointmentOf}
 use Rattle.calendar.specs.Laws.File.{length-appointment}
-use Rattle.occurrences.specs.Rules.{ruleShows}
+use Rattle.occurrences.specs.Rules.{ruleOf, ruleShows}
 use Rattle.occurrences.specs.declared.types.Rule.{Rule}
 use Rattle.calendar_writer.specs.Scatter.{Added, scatter}
 use Rattle.calendar_writer.specs.Laws.Scatter.{added-same, scatter-same}
@@ -62,12 +63,18 @@ lent c =
 fits : (c : tie.After-put-appointment) → c .put-appointment .result ≤ length (c .put-appointment .last .0)
 fits c = omega (arith, c .put-appointment .ensures .0, length-appointment (piece (c .before .before)), short (c .before .before))
 
--- a rule shows where its record is marked
-rule-marks : (c : tie.After-rule-at) → let a = begin (c .before .before .before .before) .args in (k : ℕ) → k < length (a .days .now) → ruleShows (a .c) (c .rule-at .result) (getD (a .days .now) k 0) ≡ marked (a .c) (a .days .now) k (decode (a .file .now) (a .code))
+-- the rule is that of the code's record
+ruled : (c : tie.After-rule-at) → let a = begin (c .before .before .before .before .before) .args in c .rule-at .result ≡ ruleOf (entryAt (a .file .now) (placeIn (a .code)) .«record»)
+ruled c =
+    let a = begin (c .before .before .before .before .before) .args in
+    c .rule-at .ensures ∙ ap (λ (p : ℕ). ruleOf (entryAt (a .file .now) p .«record»)) (c .before .place-in .ensures)
+
+-- it shows where the record is marked
+rule-marks : (c : tie.After-rule-at) → let a = begin (c .before .before .before .before .before) .args in (k : ℕ) → k < length (a .days .now) → ruleShows (a .c) (c .rule-at .result) (getD (a .days .now) k 0) ≡ marked (a .c) (a .days .now) k (decode (a .file .now) (a .code))
 unfolding decode
 rule-marks c k l =
-    let a = begin (c .before .before .before .before) .args in
-    ap (λ (r : Rule). ruleShows (a .c) r (getD (a .days .now) k 0)) (c .rule-at .ensures)
+    let a = begin (c .before .before .before .before .before) .args in
+    ap (λ (r : Rule). ruleShows (a .c) r (getD (a .days .now) k 0)) (ruled c)
 
 -- the same of a test that agrees and an equal piece
 moved : {s t : ℕ → Bool} {xs ys : List ℕ} {n : ℕ} {old new : List ℕ} → ((k : ℕ) → k < n → s k ≡ t k) → xs ≡ ys → Added s (length xs) n old new → Added t (length ys) n old new
@@ -93,21 +100,24 @@ put-appointment-requires c κs =
     let t = short (c .before) in
     (t, omega (arith, t, length-appointment (piece (c .before))))
 
+place-in-requires : tie.Need-place-in-requires
+place-in-requires c κs = search needs
+
 rule-at-requires : tie.Need-rule-at-requires
 rule-at-requires c κs = search needs
 
 array-share-prefix-piece : tie.Need-array-share-prefix-piece
-array-share-prefix-piece c = fits (c .before .before)
+array-share-prefix-piece c = fits (c .before .before .before)
 
 slice-aggregate-put-hits : tie.Need-slice-aggregate-put-hits
-slice-aggregate-put-hits c = sym (length-take-le _ _ (fits (c .before .before .before)))
+slice-aggregate-put-hits c = sym (length-take-le _ _ (fits (c .before .before .before .before)))
 
 put-hits-requires : tie.Need-put-hits-requires
 put-hits-requires c κs =
     let r = c .before .before .before in
-    let s = begin (r .before .before .before .before) in
+    let s = begin (r .before .before .before .before .before) in
     let p = s .pre .1 .1 in
-    (p .0, (p .1 .0, record { each = λ k l h. rw (lent (r .before .before)) (p .1 .1 .each k l (sym (rule-marks r k l) ∙ h)) }))
+    (p .0, (p .1 .0, record { each = λ k l h. rw (lent (r .before .before .before)) (p .1 .1 .each k l (sym (rule-marks r k l) ∙ h)) }))
 
 same-length : tie.Need-same-length
 same-length c = search needs
@@ -119,9 +129,9 @@ returns : tie.Need-returns
 returns c =
     let h = c .before .before .before .before in
     let r = h .before .before .before .before in
-    let a = begin (r .before .before .before .before) .args in
+    let a = begin (r .before .before .before .before .before) .args in
     let e = rule-marks r in
-    let q = lent (r .before .before) in
+    let q = lent (r .before .before .before) in
     (moved e q (h .put-hits .ensures .0), h .put-hits .ensures .1 ∙ spread (length (a .days .now)) (a .places .now) (a .out .now) e q)
 
 pub fill-code-spec : {M : Type 1} → statement M
@@ -133,6 +143,7 @@ fill-code-spec =
     part-requires
     slice-aggregate-put-appointment
     put-appointment-requires
+    place-in-requires
     rule-at-requires
     array-share-prefix-piece
     slice-aggregate-put-hits

@@ -6,6 +6,12 @@ use borrow.Author.Needs.{needs}
 use Rattle.pages.proofs.ordering.line_of.Statement.{statement}
 use Rattle.pages.proofs.ordering.line_of.Tie as tie
 
+number-in-requires : tie.Need-number-in-requires
+number-in-requires c κs = search needs
+
+place-in-requires : tie.Need-place-in-requires
+place-in-requires c κs = search needs
+
 times-at-requires : tie.Need-times-at-requires
 times-at-requires c κs = search needs
 
@@ -17,4 +23,6 @@ unfolding pageLineOf decode
 returns c = cc
 
 pub line-of-spec : {M : Type 1} → statement M
-line-of-spec = tie.close (tie.spec times-at-requires text-at-requires returns)
+line-of-spec =
+    tie.close
+    (tie.spec number-in-requires place-in-requires times-at-requires text-at-requires returns)

@@ -20,20 +20,23 @@ abbrev μ-loop : tie.MeasureT-loop
 μ-loop file codes bytes₀ i₀ bytes i = length codes - i
 
 -- one line more
-added : (c : tie.After-line-size Inv-loop μ-loop) → let l = c .before .before .before in let a = l .before .before .before .args in length (pageLines (a .file .now) (codedLines (a .file .now) (a .codes .now))) ≡ l .loop .bytes + c .line-size .result + length (pageLines (a .file .now) (codedLines (a .file .now) (drop (l .loop .i + 1) (a .codes .now))))
+added : (c : tie.After-line-size Inv-loop μ-loop) → let l = c .before .before .before .before in let a = l .before .before .before .args in length (pageLines (a .file .now) (codedLines (a .file .now) (a .codes .now))) ≡ l .loop .bytes + c .line-size .result + length (pageLines (a .file .now) (codedLines (a .file .now) (drop (l .loop .i + 1) (a .codes .now))))
 added c =
-    let l = c .before .before .before in
+    let l = c .before .before .before .before in
     let a = l .before .before .before .args in
-    rw (c .line-size .ensures) (lines-on (a .file .now) (a .codes .now) (l .loop .i) (l .loop .bytes) (omega arith) (l .loop .inv .1))
+    rw (c .line-size .ensures, c .before .place-in .ensures) (lines-on (a .file .now) (a .codes .now) (l .loop .i) (l .loop .bytes) (omega arith) (l .loop .inv .1))
 
 loop-holds : tie.Need-loop-holds Inv-loop μ-loop
 loop-holds c = (omega arith, sym (zero-add _))
 
-mul-line-size : tie.Need-mul-line-size Inv-loop μ-loop
-mul-line-size c = search needs
+mul-place-in : tie.Need-mul-place-in Inv-loop μ-loop
+mul-place-in c = search needs
 
-shared-slice-read-line-size : tie.Need-shared-slice-read-line-size Inv-loop μ-loop
-shared-slice-read-line-size c = search needs
+shared-slice-read-place-in : tie.Need-shared-slice-read-place-in Inv-loop μ-loop
+shared-slice-read-place-in c = search needs
+
+place-in-requires : tie.Need-place-in-requires Inv-loop μ-loop
+place-in-requires c κs = search needs
 
 line-size-requires : tie.Need-line-size-requires Inv-loop μ-loop
 line-size-requires c κs = omega arith
@@ -64,8 +67,9 @@ lines-size-spec =
     Inv-loop
     μ-loop
     loop-holds
-    mul-line-size
-    shared-slice-read-line-size
+    mul-place-in
+    shared-slice-read-place-in
+    place-in-requires
     line-size-requires
     add-bytes
     add-i
