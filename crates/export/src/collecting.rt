@@ -2,7 +2,7 @@
 ghost use mathlib.Core.Path.{_≡_};
 ghost use mathlib.Core.List.{map};
 ghost use Prim.Native.Nat.{_<_, _≤_};
-ghost use lib.ListN.{length, getD, take};
+ghost use lib.ListN.{length, getD, take, drop};
 ghost use Rattle.sorting.specs.Keep.{keep};
 ghost use Rattle.book.specs.Books.{entryAt, mostRecords};
 ghost use Rattle.pages.specs.Pages.{numbered};
@@ -74,7 +74,7 @@ fn take_in(
     code_of(times.start.0, number, at)
 }
 
-// The codes of the records that show on a day of the span from day `first` on, in the book's order, and the sums of its days, which were 0.
+// The codes of the records that show on a day of the span from day `first` on, in the book's order, and the sums of its days, which were 0. Codes behind the count stay.
 pub fn collect(
     file: &[u8],
     records: usize,
@@ -92,6 +92,7 @@ pub fn collect(
     ensures { λ r. ⌜ r ≤ length (now (codes .entry)) ⌝ }
     ensures { λ r.
         ⌜ take r (now (codes .exit)) ≡ map code (keep (keptIn (marked c (now (days .entry))) (length (now (days .entry)))) (numbered (now (file .entry)))) ⌝ }
+    ensures { λ r. ⌜ drop r (now (codes .exit)) ≡ drop r (now (codes .entry)) ⌝ }
     ensures { λ _. ⌜ Weighed (now (file .entry)) (marked c (now (days .entry))) (now (days .entry)) (now (sums .exit)) ⌝ }
 {
     let mut at: usize = FIRST_RECORD;

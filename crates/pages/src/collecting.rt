@@ -2,7 +2,7 @@
 ghost use mathlib.Core.Path.{_≡_};
 ghost use mathlib.Core.List.{map};
 ghost use Prim.Native.Nat.{_≤_};
-ghost use lib.ListN.{length, take};
+ghost use lib.ListN.{length, take, drop};
 ghost use Rattle.sorting.specs.Keep.{keep};
 ghost use Rattle.pages.specs.Pages.{numbered, fallsOn, pageOn};
 ghost use Rattle.pages.specs.Codes.{code};
@@ -35,13 +35,14 @@ pub fn count_lines(file: &[u8], c: ShortMonth, a: Ready) -> usize
     count
 }
 
-// The codes of the records that fall on the day, in the book's order, from the first of the lent ones on.
+// The codes of the records that fall on the day, in the book's order, from the first of the lent ones on; those behind stay.
 pub fn collect(file: &[u8], c: ShortMonth, a: Ready, codes: &mut [u64]) -> usize
     requires { ⌜ ReadyBook (now file) a ⌝ }
     requires { ⌜ a .records ≤ length (now codes) ⌝ }
     ensures { λ r. ⌜ r ≤ length (now (codes .entry)) ⌝ }
     ensures { λ r.
         ⌜ take r (now (codes .exit)) ≡ map code (keep (fallsOn c (a .facts)) (numbered (now (file .entry)))) ⌝ }
+    ensures { λ r. ⌜ drop r (now (codes .exit)) ≡ drop r (now (codes .entry)) ⌝ }
 {
     let f = a.facts;
     let mut at: usize = FIRST_RECORD;

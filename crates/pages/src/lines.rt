@@ -31,6 +31,7 @@ pub fn page_lines(file: &[u8], n: CalendarDay, c: ShortMonth) -> CountAnswer
     }
 }
 
+// The line at a place, by way of lent working space: what codes and spare hold is lost.
 fn line_with(
     file: &[u8],
     c: ShortMonth,

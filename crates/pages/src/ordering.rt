@@ -2,7 +2,7 @@
 ghost use mathlib.Core.Path.{_≡_};
 ghost use mathlib.Core.List.{map};
 ghost use Prim.Native.Nat.{_≤_};
-ghost use lib.ListN.{length, take};
+ghost use lib.ListN.{length, take, drop};
 ghost use Rattle.pages.specs.Pages.{pageOn, pageLineOf};
 ghost use Rattle.pages.specs.Codes.{code as codeOf, decode};
 ghost use Rattle.pages.specs.Invariants.{ReadyBook};
@@ -16,7 +16,7 @@ use crate::types::Ready;
 use falls::types::ShortMonth;
 use sorting::ordering::order_codes;
 
-// The codes of a day's page, in its order, from the first of the lent ones on.
+// The codes of a day's page, in its order, from the first of the lent ones on; those behind stay. What spare holds is lost.
 pub fn page_codes(
     file: &[u8],
     c: ShortMonth,
@@ -29,6 +29,7 @@ pub fn page_codes(
     requires { ⌜ length (now codes) ≤ length (now spare) ⌝ }
     ensures { λ r. ⌜ r ≤ length (now (codes .entry)) ⌝ }
     ensures { λ r. ⌜ take r (now (codes .exit)) ≡ map codeOf (pageOn c (a .facts) (now (file .entry))) ⌝ }
+    ensures { λ r. ⌜ drop r (now (codes .exit)) ≡ drop r (now (codes .entry)) ⌝ }
 {
     let n = collect(file, c, a, codes);
     order_codes(codes, spare, n);

@@ -59,7 +59,7 @@ fn print_codes(file: &[u8], f: DayFacts, codes: &[u64], out: &mut [u8]) -> Count
     CountAnswer::Count(put_page(file, f, codes, out))
 }
 
-// The page of a book, by way of lent working space.
+// The page of a book, by way of lent working space: what codes and spare hold is lost.
 fn print_with(
     file: &[u8],
     c: ShortMonth,

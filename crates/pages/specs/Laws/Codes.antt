@@ -7,7 +7,7 @@ use mathlib.Core.List.{List, [], _∷_, _++_, map, append-assoc, append-nil}
 use native.Mathlib.Omega.{arith}
 use native.Mathlib.Numerals.{add-one}
 use lib.ListN.{length, take, drop, set}
-use lib.Seq.{take-suc-set, take-at, length-take-le}
+use lib.Seq.{take-suc-set, take-at, drop-at, drop-drop, drop-set-lt, length-take-le}
 use Rattle.sorting.specs.Keep.{keep}
 use Rattle.sorting.specs.Order.{sort}
 use Rattle.sorting.specs.Laws.Order.{length-sort, map-sort}
@@ -41,10 +41,21 @@ pub codes-push : (codes : List ℕ) (count v : ℕ) (whole left : List ℕ) → 
 codes-push codes count v whole left h e =
     e ∙ rw (add-one count, take-suc-set codes count v h, append-assoc)
 
+-- and those behind stay
+pub codes-behind : (codes old : List ℕ) (count v : ℕ) → drop count codes ≡ drop count old → drop (count + 1) (set codes count v) ≡ drop (count + 1) old
+codes-behind codes old count v e =
+    drop-set-lt (count + 1) codes count v (omega arith) ∙ sym (drop-drop 1 count codes) ∙ ap (drop 1) e ∙ drop-drop 1 count old
+
 pub none-left : (codes whole : List ℕ) {left : List ℕ} → whole ≡ codes ++ left → left ≡ [] → codes ≡ whole
 none-left codes whole e z = sym (e ∙ ap (λ (l : List ℕ). codes ++ l) z ∙ append-nil codes)
 
--- what stands in front once the first n codes are ordered
-pub ordered-front : (x : List ℕ) (n : ℕ) {y : List ℕ} → n ≤ length x → y ≡ sort minuteIn (take n x) ++ drop n x → take n y ≡ sort minuteIn (take n x)
-ordered-front x n h e =
-    ap (take n) e ∙ take-at (sort minuteIn (take n x)) (drop n x) n (length-sort minuteIn (take n x) ∙ length-take-le n x h)
+-- once the first n codes are ordered: what stands in front, and what behind
+module _ (x : List ℕ) (n : ℕ) {y : List ℕ} (h : n ≤ length x) (e : y ≡ sort minuteIn (take n x) ++ drop n x) where
+  long : length (sort minuteIn (take n x)) ≡ n
+  long = length-sort minuteIn (take n x) ∙ length-take-le n x h
+
+  pub ordered-front : take n y ≡ sort minuteIn (take n x)
+  ordered-front = ap (take n) e ∙ take-at (sort minuteIn (take n x)) (drop n x) n long
+
+  pub ordered-behind : drop n y ≡ drop n x
+  ordered-behind = ap (drop n) e ∙ drop-at (sort minuteIn (take n x)) (drop n x) n long

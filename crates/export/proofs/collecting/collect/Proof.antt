@@ -3,12 +3,13 @@
 use Prim.Native.Nat.{ℕ, _-_, _<_, _≤_}
 use mathlib.Core.Path.{_≡_, refl, sym, ap, _∙_}
 use native.Mathlib.Omega.{arith}
-use lib.ListN.{length, getD, length-set}
+use lib.ListN.{length, getD, drop, length-set}
 use Rattle.book.specs.Laws.Books.{cursor-ahead}
 use Rattle.book.specs.Laws.Counts.{count-most}
 use Rattle.occurrences.specs.Rules.{ruleShows}
 use Rattle.occurrences.specs.Next.{Next}
 use Rattle.occurrences.specs.declared.types.Rule.{Rule}
+use Rattle.pages.specs.Laws.Codes.{codes-behind}
 use Rattle.occurrences.specs.Laws.After.{spanned-days, next-ahead}
 use Rattle.pages.specs.Invariants.{recordAt}
 use Rattle.export.specs.Passes.{AtMost, marked, mostSum}
@@ -17,7 +18,7 @@ use Rattle.export.proofs.collecting.collect.Statement.{statement}
 use Rattle.export.proofs.collecting.collect.Tie as tie
 
 abbrev Inv-loop : tie.InvT-loop
-Inv-loop file records c first days codes₀ sums₀ at₀ n₀ count₀ codes sums at n count = Collecting file (marked c days) days n at count codes sums × (n ≤ records) × (length codes ≡ length codes₀)
+Inv-loop file records c first days codes₀ sums₀ at₀ n₀ count₀ codes sums at n count = Collecting file (marked c days) days n at count codes sums × (n ≤ records) × (length codes ≡ length codes₀) × (drop count codes ≡ drop count codes₀)
 
 abbrev μ-loop : tie.MeasureT-loop
 μ-loop file records c first days codes₀ sums₀ at₀ n₀ count₀ codes sums at n count = records - n
@@ -39,7 +40,7 @@ loop-holds : tie.Need-loop-holds Inv-loop μ-loop
 loop-holds c =
     let s = c .before .before .before .before in
     let p = s .pre .1 .1 .1 in
-    (collect-start _ _ _ _ _ (s .pre .0 .long) (p .0) (p .1), omega arith, refl)
+    (collect-start _ _ _ _ _ (s .pre .0 .long) (p .0) (p .1), omega arith, refl, refl)
 
 next-place-requires : tie.Need-next-place-requires Inv-loop μ-loop
 next-place-requires c κs =
@@ -92,6 +93,7 @@ loop-again c =
       collect-take g (s .pre .0) (omega arith) (rule-marks n) (n .before .before .before .next-place .ensures) (shown n) (omega arith) (omega (arith, g .few)) (t .take-in .ensures .0) (t .take-in .ensures .1),
       omega arith,
       length-set (l .loop .codes) (l .loop .count) (t .take-in .result) ∙ l .loop .inv .2,
+      codes-behind (l .loop .codes) _ (l .loop .count) (t .take-in .result) (l .loop .inv .3),
     )
 
 loop-less-2 : tie.Need-loop-less-2 Inv-loop μ-loop
@@ -105,6 +107,7 @@ loop-again-2 c =
       collect-skip (l .loop .inv .0) (s .pre .0) (omega arith) (rule-marks n) (n .before .before .before .next-place .ensures) (shown n) (omega arith),
       omega arith,
       l .loop .inv .2,
+      l .loop .inv .3,
     )
 
 same-length : tie.Need-same-length Inv-loop μ-loop
@@ -121,7 +124,7 @@ returns c =
     let l = c .before in
     let s = l .before .before .before .before .before in
     let e = collect-end (l .loop .inv .0) (s .pre .0) (omega arith) in
-    (omega (arith, l .loop .inv .0 .few, s .pre .1 .1 .0), (e .0, e .1))
+    (omega (arith, l .loop .inv .0 .few, s .pre .1 .1 .0), (e .0, (l .loop .inv .3, e .1)))
 
 pub collect-spec : {M : Type 1} → statement M
 collect-spec =

@@ -43,7 +43,7 @@ gathers m =
     let s = start-of m in
     let k = m .before .before .before .before .before .before in
     let span = packed m .pack-days .ensures in
-    collect-gathered (s .pre .0 .book) span (marked-shows (counted s) span (s .args .q .choice)) (k .collect .ensures .1 .0) (k .collect .ensures .1 .1)
+    collect-gathered (s .pre .0 .book) span (marked-shows (counted s) span (s .args .q .choice)) (k .collect .ensures .1 .0) (k .collect .ensures .1 .1 .1)
 
 measures : (m : tie.After-measure) → Measures (gathers m) (m .measure .result)
 measures m = gathered-measures (gathers m) (m .measure .ensures)

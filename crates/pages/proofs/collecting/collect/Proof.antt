@@ -6,12 +6,12 @@ use mathlib.Core.Bool.{Bool}
 use mathlib.Core.List.{List, _∷_, _++_, map}
 use native.Mathlib.Omega.{arith}
 use native.Mathlib.Numerals.{add-one}
-use lib.ListN.{length, take, length-set}
+use lib.ListN.{length, take, drop, length-set}
 use Rattle.sorting.specs.Keep.{keep}
 use Rattle.book.specs.Laws.Books.{Cursor, cursor-first, cursor-ahead}
 use Rattle.pages.specs.Pages.{Numbered, numbered, fallsOn}
 use Rattle.pages.specs.Codes.{codeWith, code}
-use Rattle.pages.specs.Laws.Codes.{code-at, codes-push, none-left}
+use Rattle.pages.specs.Laws.Codes.{code-at, codes-push, codes-behind, none-left}
 use Rattle.pages.specs.Laws.Pages.{numberedAt, numbered-first, Turn, record-turn, turn-yes, turn-no, turn-end}
 use Rattle.pages.specs.Invariants.{recordAt}
 use Rattle.pages.proofs.collecting.collect.Statement.{statement}
@@ -19,7 +19,7 @@ use Rattle.pages.proofs.collecting.collect.Tie as tie
 
 abbrev Inv-loop : tie.InvT-loop
 Inv-loop file c a codes₀ f at₀ n₀ count₀ codes at n count =
-    Cursor file n at × (n ≤ a .records) × (count ≤ n) × (length codes ≡ length codes₀) × (map code (keep (fallsOn c (a .facts)) (numbered file)) ≡ take count codes ++ map code (keep (fallsOn c (a .facts)) (numberedAt file n)))
+    Cursor file n at × (n ≤ a .records) × (count ≤ n) × (length codes ≡ length codes₀) × (map code (keep (fallsOn c (a .facts)) (numbered file)) ≡ take count codes ++ map code (keep (fallsOn c (a .facts)) (numberedAt file n))) × (drop count codes ≡ drop count codes₀)
 
 abbrev μ-loop : tie.MeasureT-loop
 μ-loop file c a codes₀ f at₀ n₀ count₀ codes at n count =
@@ -41,6 +41,7 @@ loop-holds c = (
   omega arith,
   refl,
   ap (λ (xs : List Numbered). map code (keep (falling c) xs)) (numbered-first (file c)),
+  refl,
 )
 
 next-place-requires : tie.Need-next-place-requires Inv-loop μ-loop
@@ -79,7 +80,7 @@ loop-again c =
     let v : c .code-of .result ≡ code (recordAt (file (l .before)) (l .loop .n) (l .loop .at)) =
     c .code-of .ensures ∙ ap (λ (x : ℕ). codeWith x (l .loop .n) (l .loop .at)) (c .before .start-at .ensures) ∙ sym (code-at (file (l .before)) (l .loop .n) (l .loop .at) (omega arith) (omega arith)) in
     let w = l .loop .inv .4 ∙ ap (λ (xs : List Numbered). take (l .loop .count) (l .loop .codes) ++ map code xs) e ∙ ap (λ (x : ℕ). take (l .loop .count) (l .loop .codes) ++ (x ∷ map code (keep (falling (l .before)) (numberedAt (file (l .before)) (suc (l .loop .n)))))) (sym v) in
-    rw (add-one (l .loop .n), c .before .before .before .before .next-place .ensures) (t .next, omega arith, omega arith, length-set (l .loop .codes) (l .loop .count) (c .code-of .result) ∙ l .loop .inv .3, codes-push (l .loop .codes) (l .loop .count) _ _ _ (omega arith) w)
+    rw (add-one (l .loop .n), c .before .before .before .before .next-place .ensures) (t .next, omega arith, omega arith, length-set (l .loop .codes) (l .loop .count) (c .code-of .result) ∙ l .loop .inv .3, codes-push (l .loop .codes) (l .loop .count) _ _ _ (omega arith) w, codes-behind (l .loop .codes) _ (l .loop .count) (c .code-of .result) (l .loop .inv .5))
 
 loop-less-2 : tie.Need-loop-less-2 Inv-loop μ-loop
 loop-less-2 c = omega arith
@@ -90,7 +91,7 @@ loop-again-2 c =
     let t = turned (c .before .before) in
     let e = turn-no (file (l .before)) (l .loop .n) (l .loop .at) t (falling (l .before)) (sym (c .before .falls-at .ensures) ∙ c .if2 .left) in
     let w = l .loop .inv .4 ∙ ap (λ (xs : List Numbered). take (l .loop .count) (l .loop .codes) ++ map code xs) e in
-    rw (add-one (l .loop .n), c .before .before .next-place .ensures) (t .next, omega arith, omega arith, l .loop .inv .3, w)
+    rw (add-one (l .loop .n), c .before .before .next-place .ensures) (t .next, omega arith, omega arith, l .loop .inv .3, w, l .loop .inv .5)
 
 same-length : tie.Need-same-length Inv-loop μ-loop
 same-length c = c .before .before .loop .inv .3
@@ -99,7 +100,7 @@ returns : tie.Need-returns Inv-loop μ-loop
 returns c =
     let l = c .before .before in
     let e = ap (map code) (turn-end (file (l .before)) (l .loop .n) (falling (l .before)) (omega arith)) in
-    (omega arith, none-left _ _ (l .loop .inv .4) e)
+    (omega arith, (none-left _ _ (l .loop .inv .4) e, l .loop .inv .5))
 
 pub collect-spec : {M : Type 1} → statement M
 collect-spec =

@@ -2,7 +2,7 @@
 -- Assumes nothing.
 use mathlib.Core.Path.{sym, _∙_, ap}
 use native.Mathlib.Omega.{arith}
-use Rattle.pages.specs.Laws.Codes.{page-codes, ordered-front}
+use Rattle.pages.specs.Laws.Codes.{page-codes, ordered-front, ordered-behind}
 use Rattle.sorting.specs.Codes.{minuteIn}
 use Rattle.sorting.specs.Order.{sort}
 use borrow.Author.Needs.{needs}
@@ -25,7 +25,12 @@ returns : tie.Need-returns
 returns c =
     let o = c .before .before .before .before in
     let k = o .before .before .before .before .before in
-    (omega arith, ordered-front (k .collect .last .1 .1 .1 .0) (k .collect .result) (omega arith) (o .order-codes .ensures) ∙ ap (sort minuteIn) (k .collect .ensures .1) ∙ sym (page-codes _ _))
+    let x = k .collect .last .1 .1 .1 .0 in
+    let n = k .collect .result in
+    let e = k .collect .ensures .1 in (
+      omega arith,
+      (ordered-front x n (omega arith) (o .order-codes .ensures) ∙ ap (sort minuteIn) (e .0) ∙ sym (page-codes _ _), ordered-behind x n (omega arith) (o .order-codes .ensures) ∙ e .1),
+    )
 
 pub page-codes-spec : {M : Type 1} → statement M
 page-codes-spec =

@@ -17,7 +17,7 @@ use Rattle.printing.proofs.calls.print_with.Tie as tie
 page : (c : tie.After-page-codes) → let s = c .before .before .before .before .before .before .before in let a = s .args in pageText (fallsOn (a .c)) (a .file .now) (a .a .facts) ≡ codedText (a .file .now) (a .a .facts) (take (c .page-codes .result) (c .page-codes .last .1 .1 .1 .0))
 page c =
     let s = c .before .before .before .before .before .before .before in
-    page-of-codes (fallsOn (s .args .c)) (s .args .file .now) (s .args .a) (c .page-codes .result) (c .page-codes .last .1 .1 .1 .0) (s .pre .0) (c .page-codes .ensures .1)
+    page-of-codes (fallsOn (s .args .c)) (s .args .file .now) (s .args .a) (c .page-codes .result) (c .page-codes .last .1 .1 .1 .0) (s .pre .0) (c .page-codes .ensures .1 .0)
 
 page-codes-requires : tie.Need-page-codes-requires
 page-codes-requires c κs = search needs
