@@ -71,7 +71,7 @@ fn take_in(
     let text = text_at(file, at);
     let w = weight_of(times.alarm, text.length);
     add_hits(c, r, days, from, w, sums);
-    code_of(times.start.0, number, at)
+    code_of(times.start, number, at)
 }
 
 // The codes of the records that show on a day of the span from day `first` on, in the book's order, and the sums of its days, which were 0. Codes behind the count stay.

@@ -15,6 +15,7 @@ ghost use Rattle.export.specs.Invariants.{ReadyToFill};
 use crate::scattering::put_hits;
 use calendar_writer::placing::put_blanks;
 use calendar_writer::puts::put_appointment;
+use days::types::Minute;
 use falls::types::ShortMonth;
 use pages::codes::place_in;
 use pages::ordering::line_of;
@@ -23,12 +24,12 @@ use prelude::numbers::bit_of;
 use prelude::slices::part;
 
 // Flag 1 by the alarm mark, flag 2 by the interval.
-fn flags_of(alarm: bool, minute: u16, interval: u16) -> u8
+fn flags_of(alarm: bool, minute: Minute, interval: u16) -> u8
     requires { ⌜ 0 < interval ⌝ }
-    ensures { λ r. ⌜ r ≡ bit alarm + specialTime interval minute ⌝ }
+    ensures { λ r. ⌜ r ≡ bit alarm + specialTime interval (minute .0) ⌝ }
 {
     let mark = bit_of(alarm);
-    if minute % interval == 0 {
+    if minute.0 % interval == 0 {
         return mark;
     }
     mark + 2
@@ -56,8 +57,7 @@ fn fill_code(
         ⌜ now (out .exit) ≡ scatter (length (now (days .entry))) (λ k. marked c (now (days .entry)) k (decode (now (file .entry)) code)) (appointmentBytes (appointmentOf (now (file .entry)) interval (decode (now (file .entry)) code))) (now (places .entry)) 0 (now (out .entry)) ⌝ }
 {
     let line = line_of(file, code);
-    let minute = line.start.0;
-    let flags = flags_of(line.alarm, minute, interval);
+    let flags = flags_of(line.alarm, line.start, interval);
     let text = part(file, line.text.place, line.text.length);
     let mut piece = [0u8; 32];
     let size = put_appointment(&mut piece, 0, line.start, flags, text);

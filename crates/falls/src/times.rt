@@ -64,23 +64,23 @@ pub fn times_of(t: u8, p: &[u8]) -> Times
 }
 
 // The start minute alone.
-pub fn start_of(t: u8, p: &[u8]) -> u16
-    ensures { λ r. ⌜ r ≡ timesOf (recordOf t (now (p .entry))) .start .0 ⌝ }
+pub fn start_of(t: u8, p: &[u8]) -> Minute
+    ensures { λ r. ⌜ r ≡ timesOf (recordOf t (now (p .entry))) .start ⌝ }
 {
     if t == 1 {
-        return word_high(p, 4);
+        return Minute(word_high(p, 4));
     }
     if t == 2 {
-        return word_high(p, 2);
+        return Minute(word_high(p, 2));
     }
     if t == 3 {
-        return word_high(p, 2);
+        return Minute(word_high(p, 2));
     }
     if t == 4 {
-        return word_high(p, 3);
+        return Minute(word_high(p, 3));
     }
     if t == 5 {
-        return word_high(p, 3);
+        return Minute(word_high(p, 3));
     }
-    0
+    Minute(0)
 }

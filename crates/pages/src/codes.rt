@@ -2,14 +2,15 @@
 ghost use mathlib.Core.Path.{_≡_};
 ghost use Prim.Native.Nat.{_<_};
 ghost use Rattle.pages.specs.Codes.{codeWith, numberIn, placeIn};
+use days::types::Minute;
 
 // The code of a record.
-pub fn code_of(start: u16, number: usize, place: usize) -> u64
+pub fn code_of(start: Minute, number: usize, place: usize) -> u64
     requires { ⌜ number < 65536 ⌝ }
     requires { ⌜ place < 65536 ⌝ }
-    ensures { λ r. ⌜ r ≡ codeWith start number place ⌝ }
+    ensures { λ r. ⌜ r ≡ codeWith (start .0) number place ⌝ }
 {
-    (start as u64) * 4294967296 + (number as u64) * 65536 + (place as u64)
+    (start.0 as u64) * 4294967296 + (number as u64) * 65536 + (place as u64)
 }
 
 // The number in a code.

@@ -10,6 +10,7 @@ use book::entries::HEAD;
 use book::entries::body_at;
 use book::entries::body_from;
 use days::types::DayFacts;
+use days::types::Minute;
 use falls::rules::falls_on;
 use falls::rules::falls_quickly;
 use falls::times::start_of;
@@ -40,9 +41,9 @@ pub fn falls_there(file: &[u8], at: usize, c: ShortMonth, f: DayFacts) -> bool
 }
 
 // Its start minute.
-pub fn start_at(file: &[u8], at: usize) -> u16
+pub fn start_at(file: &[u8], at: usize) -> Minute
     requires { ⌜ RecordAt (now file) at ⌝ }
-    ensures { λ r. ⌜ r ≡ timesOf (entryAt (now (file .entry)) at .«record») .start .0 ⌝ }
+    ensures { λ r. ⌜ r ≡ timesOf (entryAt (now (file .entry)) at .«record») .start ⌝ }
 {
     start_of(file[at], body_at(file, at))
 }

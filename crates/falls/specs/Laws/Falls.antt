@@ -8,6 +8,7 @@ use Rattle.prelude.specs.Bytes.{wordHigh}
 use Rattle.prelude.specs.Choice.{ifEq}
 use Rattle.prelude.specs.Laws.Choice.{is-eq, is-ne, eq-elim}
 use Rattle.days.specs.declared.types.DayFacts.{DayFacts}
+use Rattle.days.specs.declared.types.Minute.{Minute}
 use Rattle.records.specs.Fields.{datedOf, repeatOf, weeklyOf, monthlyByDateOf, monthlyByPositionOf, yearlyOf, toDoOf, recordOf}
 use Rattle.records.specs.declared.types.Record.{Record}
 use Rattle.falls.specs.Falls.{datedFalls, weeklyFalls, byDateFalls, byPositionFalls, yearlyFalls, falls}
@@ -38,8 +39,11 @@ pub times-type :
 unfolding timesOf
 times-type t p = by-type timesOf t p
 
+abbrev pub minute : ℕ → Minute
+minute n = record { 0 = n }
+
 pub start-type :
     (t : ℕ) (p : List ℕ)
-    → timesOf (recordOf t p) .start .0 ≡ ifEq t 1 (wordHigh p 4) (ifEq t 2 (wordHigh p 2) (ifEq t 3 (wordHigh p 2) (ifEq t 4 (wordHigh p 3) (ifEq t 5 (wordHigh p 3) 0))))
+    → timesOf (recordOf t p) .start ≡ ifEq t 1 (minute (wordHigh p 4)) (ifEq t 2 (minute (wordHigh p 2)) (ifEq t 3 (minute (wordHigh p 2)) (ifEq t 4 (minute (wordHigh p 3)) (ifEq t 5 (minute (wordHigh p 3)) (minute 0)))))
 unfolding timesOf datedOf weeklyOf monthlyByDateOf monthlyByPositionOf yearlyOf repeatOf
-start-type t p = by-type (λ r. timesOf r .start .0) t p
+start-type t p = by-type (λ r. timesOf r .start) t p

@@ -17,14 +17,14 @@ rem-if1 c = search needs
 
 returns : tie.Need-returns
 unfolding specialTime
-returns c = omega (arith, is-eq (c .if1 .taken) {X = ℕ} 0 2, c .before .bit-of .ensures)
+returns c = omega (arith, is-eq (c .if1 .taken) {X = ℕ} 0 2, c .before .before .bit-of .ensures)
 
 add-result : tie.Need-add-result
-add-result c = omega (arith, c .before .bit-of .ensures, bit-most (c .before .before .args .alarm))
+add-result c = omega (arith, c .before .before .bit-of .ensures, bit-most (c .before .before .before .args .alarm))
 
 returns-2 : tie.Need-returns-2
 unfolding specialTime
-returns-2 c = omega (arith, is-ne (c .if1 .left) {X = ℕ} 0 2, c .before .bit-of .ensures)
+returns-2 c = omega (arith, is-ne (c .if1 .left) {X = ℕ} 0 2, c .before .before .bit-of .ensures)
 
 pub flags-of-spec : {M : Type 1} → statement M
 flags-of-spec = tie.close (tie.spec bit-of-requires rem-if1 returns add-result returns-2)

@@ -8,6 +8,7 @@ use native.Mathlib.Omega.{arith}
 use native.Mathlib.Numerals.{add-one}
 use lib.ListN.{length, take, drop, length-set}
 use Rattle.sorting.specs.Keep.{keep}
+use Rattle.days.specs.declared.types.Minute.{Minute}
 use Rattle.book.specs.Laws.Books.{Cursor, cursor-first, cursor-ahead}
 use Rattle.pages.specs.Pages.{Numbered, numbered, fallsOn}
 use Rattle.pages.specs.Codes.{codeWith, code}
@@ -78,7 +79,7 @@ loop-again c =
     let t = turned (c .before .before .before .before) in
     let e = turn-yes (file (l .before)) (l .loop .n) (l .loop .at) t (falling (l .before)) (sym (c .before .before .before .falls-at .ensures) ∙ c .before .before .if2 .taken) in
     let v : c .code-of .result ≡ code (recordAt (file (l .before)) (l .loop .n) (l .loop .at)) =
-    c .code-of .ensures ∙ ap (λ (x : ℕ). codeWith x (l .loop .n) (l .loop .at)) (c .before .start-at .ensures) ∙ sym (code-at (file (l .before)) (l .loop .n) (l .loop .at) (omega arith) (omega arith)) in
+    c .code-of .ensures ∙ ap (λ (x : Minute). codeWith (x .0) (l .loop .n) (l .loop .at)) (c .before .start-at .ensures) ∙ sym (code-at (file (l .before)) (l .loop .n) (l .loop .at) (omega arith) (omega arith)) in
     let w = l .loop .inv .4 ∙ ap (λ (xs : List Numbered). take (l .loop .count) (l .loop .codes) ++ map code xs) e ∙ ap (λ (x : ℕ). take (l .loop .count) (l .loop .codes) ++ (x ∷ map code (keep (falling (l .before)) (numberedAt (file (l .before)) (suc (l .loop .n)))))) (sym v) in
     rw (add-one (l .loop .n), c .before .before .before .before .next-place .ensures) (t .next, omega arith, omega arith, length-set (l .loop .codes) (l .loop .count) (c .code-of .result) ∙ l .loop .inv .3, codes-push (l .loop .codes) (l .loop .count) _ _ _ (omega arith) w, codes-behind (l .loop .codes) _ (l .loop .count) (c .code-of .result) (l .loop .inv .5))
 
