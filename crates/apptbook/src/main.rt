@@ -4,6 +4,7 @@ ghost use Prim.Native.Nat.{_-_};
 use commands::parsing::command_of;
 use commands::parsing::word_of;
 use commands::responding::respond;
+use commands::types::PROGRAM_ROOM;
 use commands::types::Word;
 use libc::STDIN_FILENO;
 use libc::STDOUT_FILENO;
@@ -35,7 +36,7 @@ fn main() {
     let b = word_at(2, &mut space);
     let c = word_at(3, &mut space);
     let command = command_of(words_of(os::arg_count()), a, b, c);
-    let mut out = io::large_buffer();
+    let mut out = [0u8; PROGRAM_ROOM];
     let n = respond(&book[..size], command, &mut out);
     io::write_all(STDOUT_FILENO, &out[..n]);
 }

@@ -28,10 +28,6 @@ pageResponse f c room (Validated.Ready a) =
     ifLt room (length (pageText (fallsOn c) f (a .facts))) (refusalText (refusal noRoom)) (pageText (fallsOn c) f (a .facts))
 pageResponse f c room (Validated.Refused e) = refusalText e
 
--- "Its Calendar room is 65,536 bytes"
-abbrev pub programRoom : ℕ
-programRoom = 65536
-
 -- a Calendar file, or what the export says instead
 unfoldable pub exportText : List ℕ → ExportAnswer → List ℕ
 exportText file (ExportAnswer.Written n) = file
@@ -47,7 +43,12 @@ unfoldable pub otherResponse : BookAnswer → List ℕ
 otherResponse (BookAnswer.Accepted b) = refusalText (refusal outOfRange)
 otherResponse (BookAnswer.Refused e) = refusalText e
 
-unfoldable pub response : List ℕ → Command → ℕ → List ℕ
-response f (Command.Page d c) room = pageResponse f c room (validated f (record { 0 = d }))
-response f (Command.Export d n c) room = exportResponse f c room d n
-response f Command.Unknown room = otherResponse (bookOf f)
+-- "Its Calendar room is 65,536 bytes"
+abbrev pub programRoom : ℕ
+programRoom = 65536
+
+-- what the program writes for a command on a book
+unfoldable pub response : List ℕ → Command → List ℕ
+response f (Command.Page d c) = pageResponse f c programRoom (validated f (record { 0 = d }))
+response f (Command.Export d n c) = exportResponse f c programRoom d n
+response f Command.Unknown = otherResponse (bookOf f)

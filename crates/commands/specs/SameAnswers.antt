@@ -39,4 +39,4 @@ pub record SameAnswers (f g : List ℕ) : Type 0 where
   pub export : (c : ShortMonth) (first count room : ℕ) → exportAnswer (showsUnder c) g first count room ≡ exportAnswer (showsUnder c) f first count room
   pub exported : (c : ShortMonth) (first count : ℕ) (out : List ℕ) → exportLeaves (showsUnder c) g first count out ≡ exportLeaves (showsUnder c) f first count out
   -- the program
-  pub program : (c : Command) (room : ℕ) → response g c room ≡ response f c room
+  pub program : (c : Command) → response g c ≡ response f c

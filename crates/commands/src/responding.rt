@@ -5,7 +5,7 @@ ghost use lib.ListN.{length};
 ghost use Rattle.prelude.specs.Splice.{splice};
 ghost use Rattle.book.specs.Books.{bookOf};
 ghost use Rattle.pages.specs.Answers.{validated};
-ghost use Rattle.commands.specs.Responses.{refusalText, pageResponse, exportResponse, otherResponse, response};
+ghost use Rattle.commands.specs.Responses.{refusalText, pageResponse, exportResponse, otherResponse, programRoom, response};
 use crate::types::Command;
 use book::reading::read_book;
 use book::types::BookAnswer;
@@ -91,12 +91,11 @@ fn export_response(file: &[u8], first: u32, count: u32, c: ShortMonth, out: &mut
     }
 }
 
-// The bytes that the program writes for a command on a book, and how many they are.
+// The bytes that the program writes for a command on a book, and how many they are. The room is the program's, neither less nor more.
 pub fn respond(file: &[u8], command: Command, out: &mut [u8]) -> usize
-    requires { ⌜ 32 ≤ length (now out) ⌝ }
-    ensures next { λ r. ⌜ r ≡ length (response (now (file .entry)) command (length (now (out .entry)))) ⌝ }
-    ensures put { λ _.
-        ⌜ now (out .exit) ≡ splice (now (out .entry)) 0 (response (now (file .entry)) command (length (now (out .entry)))) ⌝ }
+    requires { ⌜ length (now out) ≡ programRoom ⌝ }
+    ensures next { λ r. ⌜ r ≡ length (response (now (file .entry)) command) ⌝ }
+    ensures put { λ _. ⌜ now (out .exit) ≡ splice (now (out .entry)) 0 (response (now (file .entry)) command) ⌝ }
     ensures within { λ r. ⌜ r ≤ length (now (out .entry)) ⌝ }
 {
     match command {

@@ -1,5 +1,8 @@
-// A word of the command line, and what the words ask for.
+// A word of the command line, what the words ask for, and the room for the answer.
 use falls::types::ShortMonth;
+
+// "Its Calendar room is 65,536 bytes"
+pub const PROGRAM_ROOM: usize = 65536;
 
 // Numbers past 65,535 are all 65,536.
 pub enum Word {

@@ -1,7 +1,9 @@
--- `main` is safe and ends: what it writes is a part of its buffer.
+-- `main` is safe and ends: the buffer that it lends has the program's room, and what it writes is a part of it.
 -- Assumes nothing.
+use Prim.Native.Nat.{ℕ}
 use mathlib.Core.Path.{sym}
 use native.Mathlib.Omega.{arith}
+use lib.ListN.{length-replicate}
 use lib.Seq.{length-take-le}
 use borrow.Author.Needs.{needs}
 use Rattle.apptbook.proofs.main.Statement.{statement}
@@ -43,9 +45,6 @@ words-of-requires c κs = search needs
 command-of-requires : tie.Need-command-of-requires
 command-of-requires c κs = search needs
 
-large-buffer-requires-2 : tie.Need-large-buffer-requires-2
-large-buffer-requires-2 c κs = search needs
-
 array-share-prefix-book : tie.Need-array-share-prefix-book
 array-share-prefix-book c = search needs
 
@@ -56,7 +55,7 @@ slice-aggregate-respond-2 : tie.Need-slice-aggregate-respond-2
 slice-aggregate-respond-2 c = search needs
 
 respond-requires : tie.Need-respond-requires
-respond-requires c κs = search needs
+respond-requires c κs = length-replicate {A = ℕ} _ 0
 
 array-share-prefix-out : tie.Need-array-share-prefix-out
 array-share-prefix-out c = search needs
@@ -86,7 +85,6 @@ main-spec =
     arg-count-requires
     words-of-requires
     command-of-requires
-    large-buffer-requires-2
     array-share-prefix-book
     slice-aggregate-respond
     slice-aggregate-respond-2

@@ -12,7 +12,7 @@ use Rattle.printing.specs.Laws.Examples.{caseHead, caseLine, case-page}
 use Rattle.export.specs.Laws.Examples.{case-file, case-answers}
 use Rattle.commands.specs.Words.{spelled, wordOf}
 use Rattle.commands.specs.Commands.{withNumber, withChoice, oneWord, afterDay, twoWords, threeWords, commandOf}
-use Rattle.commands.specs.Responses.{programRoom, refusalText, pageResponse, exportText, exportResponse, response}
+use Rattle.commands.specs.Responses.{refusalText, pageResponse, exportText, exportResponse, response}
 use Rattle.commands.specs.declared.types.Word.{Word}
 use Rattle.commands.specs.declared.types.Command.{Command}
 use Rattle.calendar.specs.Laws.Examples as calendar
@@ -41,11 +41,11 @@ unfolding refusalText decimal decimalF ifLt
 refused = refl
 
 -- "One whole case": the two lines
-pub case-answer : response case (Command.Page 4822 ShortMonth.Skip) programRoom ≡ caseHead ++ caseLine
+pub case-answer : response case (Command.Page 4822 ShortMonth.Skip) ≡ caseHead ++ caseLine
 unfolding response pageResponse validated validatedDay ifLt
 case-answer = rw (case-accepted, case-page)
 
 -- its export, 192 bytes
-pub case-exported : response case (Command.Export 4820 7 ShortMonth.Skip) programRoom ≡ calendar.case
+pub case-exported : response case (Command.Export 4820 7 ShortMonth.Skip) ≡ calendar.case
 unfolding response exportResponse exportText
 case-exported = rw (case-answers .2, case-file)

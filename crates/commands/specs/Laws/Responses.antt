@@ -43,11 +43,11 @@ refused-of : (n : ℕ) {b : BookAnswer} {e : Refusal} → b ≡ BookAnswer.Refus
 unfolding validatedDay
 refused-of n q = rw q
 
-pub book-first : (f : List ℕ) (command : Command) (room : ℕ) {e : Refusal} → bookOf f ≡ BookAnswer.Refused e → response f command room ≡ refusalText e
+pub book-first : (f : List ℕ) (command : Command) {e : Refusal} → bookOf f ≡ BookAnswer.Refused e → response f command ≡ refusalText e
 unfolding response pageResponse otherResponse validated exportResponse exportText exportAnswer exportFrom
-book-first f (Command.Page d c) room q = rw (refused-of d q)
-book-first f (Command.Export d n c) room q = rw q
-book-first f Command.Unknown room q = rw q
+book-first f (Command.Page d c) q = rw (refused-of d q)
+book-first f (Command.Export d n c) q = rw q
+book-first f Command.Unknown q = rw q
 
 -- a number past the last day
 beyond-of : (f : List ℕ) (c : ShortMonth) (room d : ℕ) (b : BookAnswer) → lastDay < d → pageResponse f c room (validatedDay (record { 0 = d }) b) ≡ otherResponse b
@@ -70,7 +70,7 @@ unfolding exportResponse exportAnswer
 export-beyond f c room first count h = beyond-span-of f c room first count (bookOf f) h
 
 -- 12 never happens to a page in the program's room
-pub page-whole : (f : List ℕ) (d : ℕ) (c : ShortMonth) {a : Ready} → validated f (record { 0 = d }) ≡ Validated.Ready a → response f (Command.Page d c) programRoom ≡ pageText (fallsOn c) f (a .facts)
+pub page-whole : (f : List ℕ) (d : ℕ) (c : ShortMonth) {a : Ready} → validated f (record { 0 = d }) ≡ Validated.Ready a → response f (Command.Page d c) ≡ pageText (fallsOn c) f (a .facts)
 unfolding response pageResponse
 page-whole f d c {a} q =
     let m = page-most (fallsOn c) f a (validated-ready f (record { 0 = d }) q) in

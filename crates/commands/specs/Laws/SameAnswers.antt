@@ -19,7 +19,7 @@ use Rattle.pages.specs.declared.types.Validated.{Validated}
 use Rattle.pages.specs.Pages.{fallsOn}
 use Rattle.printing.specs.Answers.{pageLengthIn, printIn, printLeaves}
 use Rattle.export.specs.Export.{spanAnswer, exportFrom, exportAnswer, exportLeaves, showsUnder}
-use Rattle.commands.specs.Responses.{pageResponse, exportResponse, response}
+use Rattle.commands.specs.Responses.{pageResponse, exportResponse, programRoom, response}
 use Rattle.commands.specs.Laws.SameRecords.{record-same, text-same, note-same, note-lines-same, note-line-same}
 use Rattle.commands.specs.Laws.SameDays.{numbered-same, page-same, validated-same, line-text-same, page-text-same, days-same, file-same}
 use Rattle.commands.specs.SameAnswers.{SameAnswers}
@@ -44,12 +44,12 @@ module _ (f g : List ℕ) (s : SameBook f g) where
       by (BookAnswer.Accepted b) = rw (days-same f g s (showsUnder c) first count, file-same f g s (showsUnder c) first count)
       by (BookAnswer.Refused e) = refl
 
-  program-same : (c : Command) (room : ℕ) → response g c room ≡ response f c room
+  program-same : (c : Command) → response g c ≡ response f c
   unfolding response pageResponse exportResponse
-  program-same (Command.Page d c) room =
-      on-day (record { 0 = d }) (pageResponse g c room) (pageResponse f c room) (λ a. rw (page-text-same f g s (fallsOn c) (a .facts))) (λ e. refl)
-  program-same (Command.Export d n c) room = rw (export-same c d n room, file-same f g s (showsUnder c) d n)
-  program-same Command.Unknown room = rw (s .book)
+  program-same (Command.Page d c) =
+      on-day (record { 0 = d }) (pageResponse g c programRoom) (pageResponse f c programRoom) (λ a. rw (page-text-same f g s (fallsOn c) (a .facts))) (λ e. refl)
+  program-same (Command.Export d n c) = rw (export-same c d n programRoom, file-same f g s (showsUnder c) d n)
+  program-same Command.Unknown = rw (s .book)
 
   pub same-answers : SameAnswers f g
   unfolding fallsIn nextIn pageCountIn pageLineIn lineText pageLengthIn printIn printLeaves exportLeaves

@@ -1,4 +1,4 @@
--- `respond` meets its contract: each command by its own equation.
+-- `respond` meets its contract: each command by its own equation, in the program's room.
 -- Assumes nothing.
 use Rattle.commands.specs.Responses.{response}
 use borrow.Author.Needs.{needs}
@@ -30,7 +30,8 @@ returns : tie.Need-returns
 unfolding response
 returns c =
     let p = c .before .before in
-    rw (p .before .before .before .command .given .1) (p .page-response .ensures)
+    let room = p .before .before .before .before .before .before .before .pre in
+    rw (p .before .before .before .command .given .1, room) (rw room at (p .page-response .ensures))
 
 same-length-2 : tie.Need-same-length-2
 same-length-2 c = search needs
@@ -39,7 +40,8 @@ returns-2 : tie.Need-returns-2
 unfolding response
 returns-2 c =
     let p = c .before .before in
-    rw (p .before .before .before .command2 .given .1) (p .export-response .ensures)
+    let room = p .before .before .before .before .before .before .before .pre in
+    rw (p .before .before .before .command2 .given .1, room) (rw room at (p .export-response .ensures))
 
 same-length-3 : tie.Need-same-length-3
 same-length-3 c = search needs
