@@ -11,7 +11,7 @@ use Rattle.texts.specs.Notes.{linesOf}
 use Rattle.texts.specs.Lines.{lineStart, lineLength}
 use Rattle.book.specs.Books.{recordAnswer}
 use Rattle.book.specs.declared.types.RecordAnswer.{RecordAnswer}
-use Rattle.book.specs.declared.types.LinesAnswer.{LinesAnswer}
+use Rattle.prelude.specs.declared.answers.CountAnswer.{CountAnswer}
 use Rattle.book.specs.declared.types.StretchAnswer.{StretchAnswer}
 
 -- a record's note, as a stretch of the file
@@ -20,11 +20,11 @@ noteFrom (RecordAnswer.Record e) = StretchAnswer.Stretch (e .note)
 noteFrom (RecordAnswer.Refused r) = StretchAnswer.Refused r
 
 -- how many lines it has
-unfoldable pub linesIn : List ℕ → StretchAnswer → LinesAnswer
-linesIn f (StretchAnswer.Stretch s) = LinesAnswer.Lines (length (linesOf (stretchBytes f s)))
-linesIn f (StretchAnswer.Refused r) = LinesAnswer.Refused r
+unfoldable pub linesIn : List ℕ → StretchAnswer → CountAnswer
+linesIn f (StretchAnswer.Stretch s) = CountAnswer.Count (length (linesOf (stretchBytes f s)))
+linesIn f (StretchAnswer.Refused r) = CountAnswer.Refused r
 
-unfoldable pub linesAnswer : List ℕ → ℕ → LinesAnswer
+unfoldable pub linesAnswer : List ℕ → ℕ → CountAnswer
 linesAnswer f k = linesIn f (noteFrom (recordAnswer f k))
 
 -- line j of a note, as a stretch of the file

@@ -10,8 +10,8 @@ use crate::entries::texts_at;
 use crate::reading::read_book;
 use crate::types::Book;
 use crate::types::BookAnswer;
-use crate::types::LinesAnswer;
 use crate::types::StretchAnswer;
+use prelude::answers::CountAnswer;
 use prelude::refusals::NO_SUCH_NUMBER;
 use prelude::refusals::Refusal;
 use prelude::slices::Stretch;
@@ -47,13 +47,13 @@ fn note_of(file: &[u8], k: usize) -> StretchAnswer
 }
 
 // How many lines the note of a record has.
-pub fn note_lines(file: &[u8], k: usize) -> LinesAnswer
+pub fn note_lines(file: &[u8], k: usize) -> CountAnswer
     ensures { λ r. ⌜ r ≡ linesAnswer (now (file .entry)) k ⌝ }
 {
     let a = note_of(file, k);
     match a {
-        StretchAnswer::Stretch(s) => LinesAnswer::Lines(line_count(part(file, s.place, s.length))),
-        StretchAnswer::Refused(e) => LinesAnswer::Refused(e),
+        StretchAnswer::Stretch(s) => CountAnswer::Count(line_count(part(file, s.place, s.length))),
+        StretchAnswer::Refused(e) => CountAnswer::Refused(e),
     }
 }
 

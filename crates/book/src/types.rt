@@ -55,11 +55,6 @@ pub enum RecordAnswer {
     Refused(Refusal),
 }
 
-pub enum LinesAnswer {
-    Lines(usize),
-    Refused(Refusal),
-}
-
 // A stretch of the file: a note, or a line of one.
 pub enum StretchAnswer {
     Stretch(Stretch),

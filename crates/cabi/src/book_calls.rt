@@ -2,16 +2,18 @@
 ghost use mathlib.Core.Path.{_≡_};
 ghost use Rattle.book.specs.Books.{bookOf, recordAnswer};
 ghost use Rattle.book.specs.Lines.{linesAnswer, lineAnswer};
-ghost use Rattle.marshal.specs.BookAnswers.{bookOut, linesOut, lineOut};
+ghost use Rattle.marshal.specs.BookAnswers.{bookOut, lineOut};
+ghost use Rattle.marshal.specs.CountAnswers.{countOut};
 ghost use Rattle.marshal.specs.RecordAnswers.{recordOut};
 use marshal::book_answers::BookOut;
 use marshal::book_answers::LineOut;
-use marshal::book_answers::LinesOut;
 use marshal::book_answers::book_out;
 use marshal::book_answers::line_out;
-use marshal::book_answers::lines_out;
+use marshal::count_answers::CountOut;
+use marshal::count_answers::count_out;
 use marshal::record_answers::RecordOut;
 use marshal::record_kinds::record_out;
+use prelude::answers::CountAnswer;
 
 #[no_mangle]
 pub extern "C" fn apptbook_read_book(file: &[u8]) -> BookOut
@@ -28,10 +30,11 @@ pub extern "C" fn apptbook_record(file: &[u8], record: usize) -> RecordOut
 }
 
 #[no_mangle]
-pub extern "C" fn apptbook_note_lines(file: &[u8], record: usize) -> LinesOut
-    ensures { λ r. ⌜ r ≡ linesOut (linesAnswer (now (file .entry)) «record») ⌝ }
+pub extern "C" fn apptbook_note_lines(file: &[u8], record: usize) -> CountOut
+    ensures { λ r. ⌜ r ≡ countOut (linesAnswer (now (file .entry)) «record») ⌝ }
 {
-    lines_out(book::lines::note_lines(file, record))
+    let a: CountAnswer = book::lines::note_lines(file, record);
+    count_out(a)
 }
 
 #[no_mangle]

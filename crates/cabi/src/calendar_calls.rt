@@ -2,21 +2,21 @@
 ghost use mathlib.Core.Path.{_≡_};
 ghost use Rattle.calendar.specs.Reader.{calendarOf};
 ghost use Rattle.calendar.specs.Shown.{descriptorAnswer, countAnswer, appointmentAnswer};
-ghost use Rattle.marshal.specs.CalendarAnswers.{daysOut, descriptorOut, appointmentsOut, appointmentOut};
+ghost use Rattle.marshal.specs.CalendarAnswers.{descriptorOut, appointmentOut};
+ghost use Rattle.marshal.specs.CountAnswers.{countOut};
 use days::types::CalendarDay;
 use marshal::calendar_answers::AppointmentOut;
 use marshal::calendar_answers::DescriptorOut;
 use marshal::calendar_answers::appointment_out;
-use marshal::calendar_answers::appointments_out;
-use marshal::calendar_answers::days_out;
 use marshal::calendar_answers::descriptor_out;
-use marshal::page_answers::CountOut;
+use marshal::count_answers::CountOut;
+use marshal::count_answers::count_out;
 
 #[no_mangle]
 pub extern "C" fn apptbook_read_calendar(file: &[u8]) -> CountOut
-    ensures { λ r. ⌜ r ≡ daysOut (calendarOf (now (file .entry))) ⌝ }
+    ensures { λ r. ⌜ r ≡ countOut (calendarOf (now (file .entry))) ⌝ }
 {
-    days_out(calendar::reading::read_calendar(file))
+    count_out(calendar::reading::read_calendar(file))
 }
 
 #[no_mangle]
@@ -28,10 +28,10 @@ pub extern "C" fn apptbook_calendar_day(file: &[u8], descriptor: usize) -> Descr
 
 #[no_mangle]
 pub extern "C" fn apptbook_calendar_appointments(file: &[u8], day: u16) -> CountOut
-    ensures { λ r. ⌜ r ≡ appointmentsOut (countAnswer (now (file .entry)) day) ⌝ }
+    ensures { λ r. ⌜ r ≡ countOut (countAnswer (now (file .entry)) day) ⌝ }
 {
     let n = CalendarDay(day);
-    appointments_out(calendar::shown::appointment_count(file, n))
+    count_out(calendar::shown::appointment_count(file, n))
 }
 
 #[no_mangle]

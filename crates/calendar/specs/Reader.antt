@@ -11,7 +11,7 @@ use Rattle.prelude.specs.Verdicts.{andThen}
 use Rattle.prelude.specs.declared.refusals.Verdict.{Verdict}
 use Rattle.days.specs.Days.{lastDay}
 use Rattle.calendar.specs.Lists.{ListWalk, listWalkFrom, verdictIn}
-use Rattle.calendar.specs.declared.types.CalendarAnswer.{CalendarAnswer}
+use Rattle.prelude.specs.declared.answers.CountAnswer.{CountAnswer}
 use Rattle.calendar.specs.File.{lastBlock}
 
 -- "Calendar file over 2,228,224 bytes"
@@ -92,15 +92,15 @@ unfoldable pub daysFrom : ℕ → List ℕ → ℕ → Verdict
 daysFrom zero f p = Verdict.Fine
 daysFrom (suc k) f p = andThen (dayVerdict f p) (daysFrom k f (p + 12))
 
-unfoldable pub calendarAnswered : ℕ → Verdict → CalendarAnswer
-calendarAnswered n Verdict.Fine = CalendarAnswer.Accepted n
-calendarAnswered n (Verdict.Refused e) = CalendarAnswer.Refused e
+unfoldable pub calendarAnswered : ℕ → Verdict → CountAnswer
+calendarAnswered n Verdict.Fine = CountAnswer.Count n
+calendarAnswered n (Verdict.Refused e) = CountAnswer.Refused e
 
 -- the whole file; "the descriptor, or 64 for the table"
-unfoldable pub calendarOf : List ℕ → CalendarAnswer
+unfoldable pub calendarOf : List ℕ → CountAnswer
 calendarOf f =
-    ifLt mostBytes (length f) (CalendarAnswer.Refused (refusal calendarTooLong))
+    ifLt mostBytes (length f) (CountAnswer.Refused (refusal calendarTooLong))
     (ifB (calendarIdentified f)
-    (ifLt (length f) (tableEnd f) (CalendarAnswer.Refused (refusalAt badTable 64))
+    (ifLt (length f) (tableEnd f) (CountAnswer.Refused (refusalAt badTable 64))
     (calendarAnswered (countOf f) (andThen (tableFrom (countOf f) f 64 0) (daysFrom (countOf f) f 64))))
-    (CalendarAnswer.Refused (refusal notACalendar)))
+    (CountAnswer.Refused (refusal notACalendar)))

@@ -11,10 +11,9 @@ use Rattle.days.specs.Days.{lastDay}
 use Rattle.calendar.specs.File.{Appointment}
 use Rattle.calendar.specs.Lists.{sizeAt, flagsAt, minuteAt, placesInList}
 use Rattle.calendar.specs.Reader.{countOf, dayAt, offsetAt, listOf, calendarOf}
-use Rattle.calendar.specs.declared.types.CalendarAnswer.{CalendarAnswer}
+use Rattle.prelude.specs.declared.answers.CountAnswer.{CountAnswer}
 use Rattle.calendar.specs.declared.types.Descriptor.{Descriptor}
 use Rattle.calendar.specs.declared.types.DescriptorAnswer.{DescriptorAnswer}
-use Rattle.calendar.specs.declared.types.CountAnswer.{CountAnswer}
 use Rattle.calendar.specs.declared.types.StoredAppointment.{StoredAppointment}
 use Rattle.calendar.specs.declared.types.AppointmentAnswer.{AppointmentAnswer}
 
@@ -52,19 +51,19 @@ unfoldable pub descriptorAt : List ℕ → ℕ → Descriptor
 descriptorAt f p = record { day = record { 0 = dayAt f p }; offset = offsetAt f p }
 
 -- the k-th descriptor: the file's own refusal, then 10
-unfoldable pub descriptorFrom : List ℕ → ℕ → CalendarAnswer → DescriptorAnswer
-descriptorFrom f k (CalendarAnswer.Accepted n) =
+unfoldable pub descriptorFrom : List ℕ → ℕ → CountAnswer → DescriptorAnswer
+descriptorFrom f k (CountAnswer.Count n) =
     ifLt k n (DescriptorAnswer.Descriptor (descriptorAt f (64 + 12 * k))) (DescriptorAnswer.Refused (refusal noSuchNumber))
-descriptorFrom f k (CalendarAnswer.Refused e) = DescriptorAnswer.Refused e
+descriptorFrom f k (CountAnswer.Refused e) = DescriptorAnswer.Refused e
 
 unfoldable pub descriptorAnswer : List ℕ → ℕ → DescriptorAnswer
 descriptorAnswer f k = descriptorFrom f k (calendarOf f)
 
 -- how many appointments a day has: the file's own refusal, then 11
-unfoldable pub countFrom : List ℕ → ℕ → CalendarAnswer → CountAnswer
-countFrom f d (CalendarAnswer.Accepted n) =
+unfoldable pub countFrom : List ℕ → ℕ → CountAnswer → CountAnswer
+countFrom f d (CountAnswer.Count n) =
     ifLt lastDay d (CountAnswer.Refused (refusal outOfRange)) (CountAnswer.Count (length (placesOn f d)))
-countFrom f d (CalendarAnswer.Refused e) = CountAnswer.Refused e
+countFrom f d (CountAnswer.Refused e) = CountAnswer.Refused e
 
 unfoldable pub countAnswer : List ℕ → ℕ → CountAnswer
 countAnswer f d = countFrom f d (calendarOf f)
@@ -74,10 +73,10 @@ unfoldable pub appointmentAmong : List ℕ → ℕ → List ℕ → AppointmentA
 appointmentAmong f k places =
     ifLt k (length places) (AppointmentAnswer.Appointment (shownAt f (getD places k 0))) (AppointmentAnswer.Refused (refusal noSuchNumber))
 
-unfoldable pub appointmentFrom : List ℕ → ℕ → ℕ → CalendarAnswer → AppointmentAnswer
-appointmentFrom f d k (CalendarAnswer.Accepted n) =
+unfoldable pub appointmentFrom : List ℕ → ℕ → ℕ → CountAnswer → AppointmentAnswer
+appointmentFrom f d k (CountAnswer.Count n) =
     ifLt lastDay d (AppointmentAnswer.Refused (refusal outOfRange)) (appointmentAmong f k (placesOn f d))
-appointmentFrom f d k (CalendarAnswer.Refused e) = AppointmentAnswer.Refused e
+appointmentFrom f d k (CountAnswer.Refused e) = AppointmentAnswer.Refused e
 
 unfoldable pub appointmentAnswer : List ℕ → ℕ → ℕ → AppointmentAnswer
 appointmentAnswer f d k = appointmentFrom f d k (calendarOf f)

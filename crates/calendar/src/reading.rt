@@ -9,8 +9,8 @@ use crate::head::is_calendar;
 use crate::head::judge_table;
 use crate::lists::judge_list;
 use crate::lists::span_of;
-use crate::types::CalendarAnswer;
 use crate::types::LAST_BLOCK;
+use prelude::answers::CountAnswer;
 use prelude::refusals::BAD_BLOCK;
 use prelude::refusals::BAD_TABLE;
 use prelude::refusals::CALENDAR_TOO_LONG;
@@ -99,21 +99,21 @@ fn judge_all(file: &[u8], count: usize) -> Verdict
     }
 }
 
-fn answered_with(count: usize, v: Verdict) -> CalendarAnswer
+fn answered_with(count: usize, v: Verdict) -> CountAnswer
     ensures { λ r. ⌜ r ≡ calendarAnswered count v ⌝ }
 {
     match v {
-        Verdict::Fine => CalendarAnswer::Accepted(count),
-        Verdict::Refused(e) => CalendarAnswer::Refused(e),
+        Verdict::Fine => CountAnswer::Count(count),
+        Verdict::Refused(e) => CountAnswer::Refused(e),
     }
 }
 
 // The number of days of a Calendar file, or its refusal.
-pub fn read_calendar(file: &[u8]) -> CalendarAnswer
+pub fn read_calendar(file: &[u8]) -> CountAnswer
     ensures { λ r. ⌜ r ≡ calendarOf (now (file .entry)) ⌝ }
 {
     if 2228224 < file.len() {
-        return CalendarAnswer::Refused(Refusal {
+        return CountAnswer::Refused(Refusal {
             number: CALENDAR_TOO_LONG,
             place: 0,
         });
@@ -121,14 +121,14 @@ pub fn read_calendar(file: &[u8]) -> CalendarAnswer
     if is_calendar(file) {
         let count = count_of(file);
         if file.len() < 64 + 12 * count {
-            return CalendarAnswer::Refused(Refusal {
+            return CountAnswer::Refused(Refusal {
                 number: BAD_TABLE,
                 place: 64,
             });
         }
         return answered_with(count, judge_all(file, count));
     }
-    CalendarAnswer::Refused(Refusal {
+    CountAnswer::Refused(Refusal {
         number: NOT_A_CALENDAR,
         place: 0,
     })

@@ -8,13 +8,12 @@ use crate::appointments::count_list;
 use crate::lists::span_of;
 use crate::reading::read_calendar;
 use crate::types::AppointmentAnswer;
-use crate::types::CalendarAnswer;
-use crate::types::CountAnswer;
 use crate::types::Descriptor;
 use crate::types::DescriptorAnswer;
 use crate::types::Span;
 use days::types::CalendarDay;
 use days::types::LAST_DAY;
+use prelude::answers::CountAnswer;
 use prelude::refusals::NO_SUCH_NUMBER;
 use prelude::refusals::OUT_OF_RANGE;
 use prelude::refusals::Refusal;
@@ -23,7 +22,7 @@ use prelude::slices::word_in;
 
 fn descriptor_in(file: &[u8], k: usize, n: usize) -> DescriptorAnswer
     requires { ⌜ AcceptedFile (now file) n ⌝ }
-    ensures { λ r. ⌜ r ≡ descriptorFrom (now (file .entry)) k (CalendarAnswer.Accepted n) ⌝ }
+    ensures { λ r. ⌜ r ≡ descriptorFrom (now (file .entry)) k (CountAnswer.Count n) ⌝ }
 {
     if k < n {
         let p = 64 + 12 * k;
@@ -46,8 +45,8 @@ pub fn descriptor_at(file: &[u8], k: usize) -> DescriptorAnswer
 {
     let a = read_calendar(file);
     match a {
-        CalendarAnswer::Accepted(n) => descriptor_in(file, k, n),
-        CalendarAnswer::Refused(e) => DescriptorAnswer::Refused(e),
+        CountAnswer::Count(n) => descriptor_in(file, k, n),
+        CountAnswer::Refused(e) => DescriptorAnswer::Refused(e),
     }
 }
 
@@ -70,7 +69,7 @@ fn span_on(file: &[u8], day: u16, n: usize) -> Span
 
 fn count_on(file: &[u8], day: CalendarDay, n: usize) -> CountAnswer
     requires { ⌜ AcceptedFile (now file) n ⌝ }
-    ensures { λ r. ⌜ r ≡ countFrom (now (file .entry)) (day .0) (CalendarAnswer.Accepted n) ⌝ }
+    ensures { λ r. ⌜ r ≡ countFrom (now (file .entry)) (day .0) (CountAnswer.Count n) ⌝ }
 {
     if LAST_DAY < day.0 {
         return CountAnswer::Refused(Refusal {
@@ -88,14 +87,14 @@ pub fn appointment_count(file: &[u8], day: CalendarDay) -> CountAnswer
 {
     let a = read_calendar(file);
     match a {
-        CalendarAnswer::Accepted(n) => count_on(file, day, n),
-        CalendarAnswer::Refused(e) => CountAnswer::Refused(e),
+        CountAnswer::Count(n) => count_on(file, day, n),
+        CountAnswer::Refused(e) => CountAnswer::Refused(e),
     }
 }
 
 fn appointment_on(file: &[u8], day: CalendarDay, k: usize, n: usize) -> AppointmentAnswer
     requires { ⌜ AcceptedFile (now file) n ⌝ }
-    ensures { λ r. ⌜ r ≡ appointmentFrom (now (file .entry)) (day .0) k (CalendarAnswer.Accepted n) ⌝ }
+    ensures { λ r. ⌜ r ≡ appointmentFrom (now (file .entry)) (day .0) k (CountAnswer.Count n) ⌝ }
 {
     if LAST_DAY < day.0 {
         return AppointmentAnswer::Refused(Refusal {
@@ -113,8 +112,8 @@ pub fn appointment_at(file: &[u8], day: CalendarDay, k: usize) -> AppointmentAns
 {
     let a = read_calendar(file);
     match a {
-        CalendarAnswer::Accepted(n) => appointment_on(file, day, k, n),
-        CalendarAnswer::Refused(e) => AppointmentAnswer::Refused(e),
+        CountAnswer::Count(n) => appointment_on(file, day, k, n),
+        CountAnswer::Refused(e) => AppointmentAnswer::Refused(e),
     }
 }
 

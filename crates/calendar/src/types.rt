@@ -16,12 +16,6 @@ pub struct CalendarSettings {
     pub start: Minute,
 }
 
-// The number of days of an accepted file, or its refusal.
-pub enum CalendarAnswer {
-    Accepted(usize),
-    Refused(Refusal),
-}
-
 // A descriptor's day and block offset, as stored.
 pub struct Descriptor {
     pub day: CalendarDay,
@@ -30,12 +24,6 @@ pub struct Descriptor {
 
 pub enum DescriptorAnswer {
     Descriptor(Descriptor),
-    Refused(Refusal),
-}
-
-// How many appointments a day has.
-pub enum CountAnswer {
-    Count(usize),
     Refused(Refusal),
 }
 

@@ -9,7 +9,7 @@ use Rattle.prelude.specs.Bytes.{byte, word}
 use Rattle.prelude.specs.Refusals.{badArrays, badDayTable, badChain, badChainOrder}
 use Rattle.prelude.specs.Verdicts.{refused, unlessBad, andThen, inTurn}
 use Rattle.prelude.specs.declared.refusals.Verdict.{Verdict}
-use Rattle.chains.specs.declared.types.ChainsAnswer.{ChainsAnswer}
+use Rattle.prelude.specs.declared.answers.CountAnswer.{CountAnswer}
 
 -- "65,535 for none"
 abbrev pub noRecord : ℕ
@@ -135,10 +135,10 @@ chainsVerdict t previous next kind minute =
     (ifEq (entries t) 0 (refused badDayTable 0) (chainsJudged t previous next kind minute))
     (refused badArrays 0)
 
-unfoldable pub chainsAnswered : ℕ → Verdict → ChainsAnswer
-chainsAnswered n Verdict.Fine = ChainsAnswer.Days n
-chainsAnswered n (Verdict.Refused e) = ChainsAnswer.Refused e
+unfoldable pub chainsAnswered : ℕ → Verdict → CountAnswer
+chainsAnswered n Verdict.Fine = CountAnswer.Count n
+chainsAnswered n (Verdict.Refused e) = CountAnswer.Refused e
 
 -- accepted: the number of days
-unfoldable pub chainsAnswer : List ℕ → List ℕ → List ℕ → List ℕ → List ℕ → ChainsAnswer
+unfoldable pub chainsAnswer : List ℕ → List ℕ → List ℕ → List ℕ → List ℕ → CountAnswer
 chainsAnswer t previous next kind minute = chainsAnswered (days t) (chainsVerdict t previous next kind minute)

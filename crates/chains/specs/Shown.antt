@@ -5,7 +5,7 @@ use mathlib.Core.Path.{_≡_}
 use mathlib.Core.List.{List, [], _∷_, List·Memᴰ}
 use lib.ListN.{length}
 use Rattle.chains.specs.Chains.{fieldOf, noRecord, headAt, days, walk, chainAt}
-use Rattle.chains.specs.declared.types.ChainsAnswer.{ChainsAnswer}
+use Rattle.prelude.specs.declared.answers.CountAnswer.{CountAnswer}
 
 -- the record that is j steps on from r
 unfoldable pub after : List ℕ → ℕ → ℕ → ℕ
@@ -31,5 +31,5 @@ pub record Shown (t next : List ℕ) : Type 0 where
   pub ends : (i : ℕ) → i < days t → Ends next (headAt t i) (length next)
 
 -- what an answer that accepts says
-abbrev pub Promised : List ℕ → List ℕ → ChainsAnswer → Type 0
-Promised t next answer = (n : ℕ) → answer ≡ ChainsAnswer.Days n → Shown t next
+abbrev pub Promised : List ℕ → List ℕ → CountAnswer → Type 0
+Promised t next answer = (n : ℕ) → answer ≡ CountAnswer.Count n → Shown t next

@@ -10,7 +10,7 @@ use crate::order::judge_order;
 use crate::table::MOST_RECORDS;
 use crate::table::entry_count;
 use crate::table::judge_entries;
-use crate::types::ChainsAnswer;
+use prelude::answers::CountAnswer;
 use prelude::refusals::BAD_ARRAYS;
 use prelude::refusals::BAD_DAY_TABLE;
 use prelude::refusals::Refusal;
@@ -98,14 +98,14 @@ pub fn check_chains(
     next: &[u16],
     kinds: &[u16],
     minutes: &[u16],
-) -> ChainsAnswer
+) -> CountAnswer
     ensures answer { λ r. ⌜ r ≡ chainsAnswer (now (table .entry)) (now (previous .entry)) (now (next .entry)) (now (kinds .entry)) (now (minutes .entry)) ⌝ }
     ensures shown { λ r. ⌜ Promised (now (table .entry)) (now (next .entry)) r ⌝ }
 {
     let count = entry_count(table);
     let v = judge(table, count, previous, next, kinds, minutes);
     match v {
-        Verdict::Fine => ChainsAnswer::Days(count - 1),
-        Verdict::Refused(e) => ChainsAnswer::Refused(e),
+        Verdict::Fine => CountAnswer::Count(count - 1),
+        Verdict::Refused(e) => CountAnswer::Refused(e),
     }
 }

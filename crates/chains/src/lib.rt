@@ -4,4 +4,3 @@ mod heads;
 mod links;
 mod order;
 mod table;
-pub mod types;

@@ -15,7 +15,7 @@ use Rattle.pages.specs.declared.types.Validated.{Validated}
 use Rattle.pages.specs.Pages.{fallsOn}
 use Rattle.printing.specs.Printed.{newline, space, pageText}
 use Rattle.export.specs.Export.{exportFile, exportAnswer, showsUnder}
-use Rattle.export.specs.declared.answers.ExportAnswer.{ExportAnswer}
+use Rattle.prelude.specs.declared.answers.CountAnswer.{CountAnswer}
 use Rattle.commands.specs.declared.types.Command.{Command}
 
 -- "A refusal is printed as number, space, place, 0Ah."
@@ -29,9 +29,9 @@ pageResponse f c room (Validated.Ready a) =
 pageResponse f c room (Validated.Refused e) = refusalText e
 
 -- a Calendar file, or what the export says instead
-unfoldable pub exportText : List ℕ → ExportAnswer → List ℕ
-exportText file (ExportAnswer.Written n) = file
-exportText file (ExportAnswer.Refused e) = refusalText e
+unfoldable pub exportText : List ℕ → CountAnswer → List ℕ
+exportText file (CountAnswer.Count n) = file
+exportText file (CountAnswer.Refused e) = refusalText e
 
 -- "a first day and a count (export)", in so many bytes of room
 unfoldable pub exportResponse : List ℕ → ShortMonth → ℕ → ℕ → ℕ → List ℕ

@@ -12,10 +12,9 @@ use book::types::BookAnswer;
 use days::types::CalendarDay;
 use digits::puts::put_byte;
 use digits::puts::put_decimal;
-use export::answers::ExportAnswer;
 use export::calls::export;
 use falls::types::ShortMonth;
-use pages::types::CountAnswer;
+use prelude::answers::CountAnswer;
 use prelude::refusals::OUT_OF_RANGE;
 use prelude::refusals::Refusal;
 use printing::calls::print_page;
@@ -86,8 +85,8 @@ fn export_response(file: &[u8], first: u32, count: u32, c: ShortMonth, out: &mut
     }
     let a = export(file, CalendarDay(first as u16), count as u16, c, out);
     match a {
-        ExportAnswer::Written(n) => n,
-        ExportAnswer::Refused(e) => put_refusal(out, e),
+        CountAnswer::Count(n) => n,
+        CountAnswer::Refused(e) => put_refusal(out, e),
     }
 }
 

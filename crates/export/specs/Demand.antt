@@ -20,8 +20,7 @@ use Rattle.pages.specs.Pages.{Numbered, recordTimes, startOf, pageOf}
 use Rattle.calendar.specs.File.{Appointment}
 use Rattle.calendar.specs.Reader.{countOf, calendarOf}
 use Rattle.calendar.specs.Shown.{appointmentsOn}
-use Rattle.calendar.specs.declared.types.CalendarAnswer.{CalendarAnswer}
-use Rattle.export.specs.declared.answers.ExportAnswer.{ExportAnswer}
+use Rattle.prelude.specs.declared.answers.CountAnswer.{CountAnswer}
 
 -- what the two lists hold
 pub record Showing : Type 0 where
@@ -44,7 +43,7 @@ shown a = record { minute = a .minute; alarm = eqb (a .flags % 2) 1; text = a .t
 -- a Calendar file shows count days from the first on as the book's pages list them
 pub record SameDays (shows : ℕ → Numbered → Bool) (book : List ℕ) (first count : ℕ) (file : List ℕ) : Type 0 where
   -- the Calendar reader accepts it
-  pub accepted : calendarOf file ≡ CalendarAnswer.Accepted (countOf file)
+  pub accepted : calendarOf file ≡ CountAnswer.Count (countOf file)
   -- each day of the span shows its page
   pub inside : (d : ℕ) → first ≤ d → d < first + count → map shown (appointmentsOn file d) ≡ dayList shows book d
   -- any other day shows nothing
@@ -93,20 +92,20 @@ pub record StartsLate (list : ℕ → List Showing) (first count k : ℕ) : Type
   pub late : lastStart < blockStart list first count k
 
 -- "Its sizes are those of 12 and 13": what is answered where a span whose days have these lists is to be written to a buffer of that room
-pub record Sizes (list : ℕ → List Showing) (first count room : ℕ) (answer : ExportAnswer) : Type 0 where
+pub record Sizes (list : ℕ → List Showing) (first count room : ℕ) (answer : CountAnswer) : Type 0 where
   -- 13 where a day's block would start too late
-  pub thirteen : (k : ℕ) → StartsLate list first count k → answer ≡ ExportAnswer.Refused (refusal tooManyBlocks)
+  pub thirteen : (k : ℕ) → StartsLate list first count k → answer ≡ CountAnswer.Refused (refusal tooManyBlocks)
   -- else 12 where the buffer is shorter than the file
-  pub twelve : ((k : ℕ) → StartsLate list first count k → ⊥) → room < fileSize list first count → answer ≡ ExportAnswer.Refused (refusal noRoom)
+  pub twelve : ((k : ℕ) → StartsLate list first count k → ⊥) → room < fileSize list first count → answer ≡ CountAnswer.Refused (refusal noRoom)
   -- else the file is written
-  pub written : ((k : ℕ) → StartsLate list first count k → ⊥) → fileSize list first count ≤ room → answer ≡ ExportAnswer.Written (fileSize list first count)
+  pub written : ((k : ℕ) → StartsLate list first count k → ⊥) → fileSize list first count ≤ room → answer ≡ CountAnswer.Count (fileSize list first count)
 
 -- Demand 3 of an export that found a buffer `out`, gave `answer` and left the buffer as `left`.
-pub record Demand3 (shows : ℕ → Numbered → Bool) (book : List ℕ) (first count : ℕ) (out : List ℕ) (answer : ExportAnswer) (left : List ℕ) : Type 0 where
+pub record Demand3 (shows : ℕ → Numbered → Bool) (book : List ℕ) (first count : ℕ) (out : List ℕ) (answer : CountAnswer) (left : List ℕ) : Type 0 where
   -- An accepted book and a span in range are refused exactly where one of the two sizes is passed: "a first day, a Calendar day even
   -- when the count is 0, and a count of days, 0 to 366, with first + count at most 43,830".
   pub sizes :
       (b : Book) → bookOf book ≡ BookAnswer.Accepted b → first ≤ lastDay → count ≤ longestSpan → first + count ≤ lastDay + 1
       → Sizes (dayList shows book) first count (length out) answer
   -- The bytes that were written are a Calendar file that is accepted and shows the days of the span as the pages list them, and no others.
-  pub same : (n : ℕ) → answer ≡ ExportAnswer.Written n → SameDays shows book first count (take n left)
+  pub same : (n : ℕ) → answer ≡ CountAnswer.Count n → SameDays shows book first count (take n left)

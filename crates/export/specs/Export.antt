@@ -20,7 +20,7 @@ use Rattle.pages.specs.Pages.{Numbered, recordTimes, startOf, pageOf, fallsOn}
 use Rattle.calendar.specs.File.{Appointment, Day, fileOf}
 use Rattle.calendar.specs.declared.types.CalendarSettings.{CalendarSettings}
 use Rattle.calendar_writer.specs.DayLists.{daysWith, pastLastBlock, mostDays}
-use Rattle.export.specs.declared.answers.ExportAnswer.{ExportAnswer}
+use Rattle.prelude.specs.declared.answers.CountAnswer.{CountAnswer}
 
 -- "The export takes a first day, a Calendar day even when the count is 0, and a count of days, 0 to 366, with first + count at most 43,830."
 unfoldable pub spanOk : ℕ → ℕ → Bool
@@ -72,29 +72,29 @@ unfoldable pub exportFile : (ℕ → Numbered → Bool) → List ℕ → ℕ →
 exportFile shows f first count = fileOf (settingsFor (settingsOf f)) (exportDays shows f first count)
 
 -- 13, then "12: lent buffer shorter than the file"
-unfoldable pub sized : ℕ → Bool → ℕ → ExportAnswer
+unfoldable pub sized : ℕ → Bool → ℕ → CountAnswer
 sized room past size =
-    ifB past (ExportAnswer.Refused (refusal tooManyBlocks))
-    (ifLt room size (ExportAnswer.Refused (refusal noRoom)) (ExportAnswer.Written size))
+    ifB past (CountAnswer.Refused (refusal tooManyBlocks))
+    (ifLt room size (CountAnswer.Refused (refusal noRoom)) (CountAnswer.Count size))
 
 -- a span of an accepted book
-unfoldable pub spanAnswer : (ℕ → Numbered → Bool) → List ℕ → ℕ → ℕ → ℕ → ExportAnswer
+unfoldable pub spanAnswer : (ℕ → Numbered → Bool) → List ℕ → ℕ → ℕ → ℕ → CountAnswer
 spanAnswer shows f first count room =
     sized room (pastLastBlock (exportDays shows f first count)) (length (exportFile shows f first count))
 
 -- "Calls on a book give these first, then 11, 10, 13, 12."
-unfoldable pub exportFrom : (ℕ → Numbered → Bool) → List ℕ → ℕ → ℕ → ℕ → BookAnswer → ExportAnswer
+unfoldable pub exportFrom : (ℕ → Numbered → Bool) → List ℕ → ℕ → ℕ → ℕ → BookAnswer → CountAnswer
 exportFrom shows f first count room (BookAnswer.Accepted b) =
-    ifB (spanOk first count) (spanAnswer shows f first count room) (ExportAnswer.Refused (refusal outOfRange))
-exportFrom shows f first count room (BookAnswer.Refused e) = ExportAnswer.Refused e
+    ifB (spanOk first count) (spanAnswer shows f first count room) (CountAnswer.Refused (refusal outOfRange))
+exportFrom shows f first count room (BookAnswer.Refused e) = CountAnswer.Refused e
 
-unfoldable pub exportAnswer : (ℕ → Numbered → Bool) → List ℕ → ℕ → ℕ → ℕ → ExportAnswer
+unfoldable pub exportAnswer : (ℕ → Numbered → Bool) → List ℕ → ℕ → ℕ → ℕ → CountAnswer
 exportAnswer shows f first count room = exportFrom shows f first count room (bookOf f)
 
 -- "No lent byte changes. After success, bytes past the written length are as before."
-unfoldable pub leavesFile : List ℕ → List ℕ → ExportAnswer → List ℕ
-leavesFile file out (ExportAnswer.Written n) = splice out 0 file
-leavesFile file out (ExportAnswer.Refused e) = out
+unfoldable pub leavesFile : List ℕ → List ℕ → CountAnswer → List ℕ
+leavesFile file out (CountAnswer.Count n) = splice out 0 file
+leavesFile file out (CountAnswer.Refused e) = out
 
 -- the lent buffer, which was out: after a span of an accepted book, and after any call
 unfoldable pub spanLeaves : (ℕ → Numbered → Bool) → List ℕ → ℕ → ℕ → List ℕ → List ℕ

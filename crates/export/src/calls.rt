@@ -4,7 +4,6 @@ ghost use lib.ListN.{length};
 ghost use Rattle.book.specs.Books.{bookOf};
 ghost use Rattle.export.specs.Export.{exportFile, exportFrom, exportAnswer, leavesFile, exportLeaves, showsUnder};
 ghost use Rattle.export.specs.Demand.{Demand3};
-use crate::answers::ExportAnswer;
 use crate::deciding::refused;
 use crate::deciding::span_ok;
 use crate::requests::Request;
@@ -16,6 +15,7 @@ use days::answers::FactsAnswer;
 use days::facts::facts_of_day;
 use days::types::CalendarDay;
 use falls::types::ShortMonth;
+use prelude::answers::CountAnswer;
 use prelude::refusals::OUT_OF_RANGE;
 
 fn export_in(
@@ -25,7 +25,7 @@ fn export_in(
     count: u16,
     c: ShortMonth,
     out: &mut [u8],
-) -> ExportAnswer
+) -> CountAnswer
     requires { ⌜ bookOf (now file) ≡ BookAnswer.Accepted b ⌝ }
     ensures { λ r.
         ⌜ r ≡ exportFrom (showsUnder c) (now (file .entry)) (first .0) count (length (now (out .entry))) (BookAnswer.Accepted b) ⌝ }
@@ -43,7 +43,7 @@ fn export_in(
                 };
                 export_span(file, q, count as usize, out)
             }
-            FactsAnswer::Refused(e) => ExportAnswer::Refused(e),
+            FactsAnswer::Refused(e) => CountAnswer::Refused(e),
         }
     } else {
         refused(OUT_OF_RANGE)
@@ -57,7 +57,7 @@ pub fn export(
     count: u16,
     c: ShortMonth,
     out: &mut [u8],
-) -> ExportAnswer
+) -> CountAnswer
     ensures { λ r.
         ⌜ r ≡ exportAnswer (showsUnder c) (now (file .entry)) (first .0) count (length (now (out .entry))) ⌝ }
     ensures { λ _.
@@ -68,6 +68,6 @@ pub fn export(
     let a = read_book(file);
     match a {
         BookAnswer::Accepted(b) => export_in(file, b, first, count, c, out),
-        BookAnswer::Refused(e) => ExportAnswer::Refused(e),
+        BookAnswer::Refused(e) => CountAnswer::Refused(e),
     }
 }

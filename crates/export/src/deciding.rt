@@ -2,19 +2,19 @@
 ghost use mathlib.Core.Path.{_≡_};
 ghost use Rattle.prelude.specs.Refusals.{refusal};
 ghost use Rattle.export.specs.Export.{spanOk, sized};
-use crate::answers::ExportAnswer;
 use calendar_writer::types::MOST_COUNT;
 use calendar_writer::types::Measure;
 use days::types::DAYS;
 use days::types::LAST_DAY;
+use prelude::answers::CountAnswer;
 use prelude::refusals::NO_ROOM;
 use prelude::refusals::Refusal;
 use prelude::refusals::TOO_MANY_BLOCKS;
 
-pub fn refused(number: u32) -> ExportAnswer
-    ensures { λ r. ⌜ r ≡ ExportAnswer.Refused (refusal number) ⌝ }
+pub fn refused(number: u32) -> CountAnswer
+    ensures { λ r. ⌜ r ≡ CountAnswer.Refused (refusal number) ⌝ }
 {
-    ExportAnswer::Refused(Refusal { number, place: 0 })
+    CountAnswer::Refused(Refusal { number, place: 0 })
 }
 
 pub fn span_ok(first: u16, count: u16) -> bool
@@ -33,7 +33,7 @@ pub fn span_ok(first: u16, count: u16) -> bool
 }
 
 // The answer for a file of that measure.
-pub fn answer_for(m: Measure, room: usize) -> ExportAnswer
+pub fn answer_for(m: Measure, room: usize) -> CountAnswer
     ensures { λ r. ⌜ r ≡ sized room (m .«past_last_block») (m .length) ⌝ }
 {
     if m.past_last_block {
@@ -42,5 +42,5 @@ pub fn answer_for(m: Measure, room: usize) -> ExportAnswer
     if room < m.length {
         return refused(NO_ROOM);
     }
-    ExportAnswer::Written(m.length)
+    CountAnswer::Count(m.length)
 }

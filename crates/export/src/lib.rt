@@ -1,5 +1,4 @@
 // The export: a book and a span of days into a lent buffer as a Calendar file, measured before it is filled.
-pub mod answers;
 pub mod calls;
 mod collecting;
 mod deciding;

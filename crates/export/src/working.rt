@@ -4,7 +4,6 @@ ghost use Prim.Native.Nat.{_≤_};
 ghost use lib.ListN.{length};
 ghost use Rattle.export.specs.Export.{spanAnswer, spanLeaves, showsUnder};
 ghost use Rattle.export.specs.Requests.{ValidRequest, Space};
-use crate::answers::ExportAnswer;
 use crate::collecting::collect;
 use crate::deciding::answer_for;
 use crate::requests::Request;
@@ -13,6 +12,7 @@ use book::types::MOST_RECORDS;
 use calendar_writer::measuring::measure;
 use calendar_writer::types::MOST_DAYS;
 use day_steps::packing::pack_days;
+use prelude::answers::CountAnswer;
 
 // As many days as the lent lists of days, sums and places have elements.
 fn export_days(
@@ -24,7 +24,7 @@ fn export_days(
     codes: &mut [u64],
     spare: &mut [u64],
     out: &mut [u8],
-) -> ExportAnswer
+) -> CountAnswer
     requires { ⌜ ValidRequest (now file) q (length (now days)) ⌝ }
     requires { ⌜ Space (q .book .records) (now days) (now sums) (now places) (now codes) (now spare) ⌝ }
     ensures { λ r.
@@ -39,17 +39,17 @@ fn export_days(
     let m = measure(sums);
     let a = answer_for(m, out.len());
     match a {
-        ExportAnswer::Written(length) => {
+        CountAnswer::Count(length) => {
             let k = m.descriptors;
             fill(file, q, days, sums, codes, spare, n, k, places, out);
-            ExportAnswer::Written(length)
+            CountAnswer::Count(length)
         }
-        ExportAnswer::Refused(e) => ExportAnswer::Refused(e),
+        CountAnswer::Refused(e) => CountAnswer::Refused(e),
     }
 }
 
 // At most 32 days of a book of at most 64 records.
-fn export_few(file: &[u8], q: Request, count: usize, out: &mut [u8]) -> ExportAnswer
+fn export_few(file: &[u8], q: Request, count: usize, out: &mut [u8]) -> CountAnswer
     requires { ⌜ ValidRequest (now file) q count ⌝ }
     requires { ⌜ count ≤ 32 ⌝ }
     requires { ⌜ q .book .records ≤ 64 ⌝ }
@@ -76,7 +76,7 @@ fn export_few(file: &[u8], q: Request, count: usize, out: &mut [u8]) -> ExportAn
 }
 
 // Any span: it has at most 366 days, and a book at most 4,680 records.
-fn export_many(file: &[u8], q: Request, count: usize, out: &mut [u8]) -> ExportAnswer
+fn export_many(file: &[u8], q: Request, count: usize, out: &mut [u8]) -> CountAnswer
     requires { ⌜ ValidRequest (now file) q count ⌝ }
     ensures { λ r.
         ⌜ r ≡ spanAnswer (showsUnder (q .choice)) (now (file .entry)) (q .first .day .0) count (length (now (out .entry))) ⌝ }
@@ -100,7 +100,7 @@ fn export_many(file: &[u8], q: Request, count: usize, out: &mut [u8]) -> ExportA
     )
 }
 
-pub fn export_span(file: &[u8], q: Request, count: usize, out: &mut [u8]) -> ExportAnswer
+pub fn export_span(file: &[u8], q: Request, count: usize, out: &mut [u8]) -> CountAnswer
     requires { ⌜ ValidRequest (now file) q count ⌝ }
     ensures { λ r.
         ⌜ r ≡ spanAnswer (showsUnder (q .choice)) (now (file .entry)) (q .first .day .0) count (length (now (out .entry))) ⌝ }

@@ -3,10 +3,8 @@
 use mathlib.Core.Bool.{false}
 use Rattle.book.specs.declared.types.Settings.{Settings}
 use Rattle.book.specs.declared.types.BookAnswer.{BookAnswer}
-use Rattle.book.specs.declared.types.LinesAnswer.{LinesAnswer}
 use Rattle.book.specs.declared.types.StretchAnswer.{StretchAnswer}
 use Rattle.marshal.specs.declared.book_answers.BookOut.{BookOut}
-use Rattle.marshal.specs.declared.book_answers.LinesOut.{LinesOut}
 use Rattle.marshal.specs.declared.book_answers.LineOut.{LineOut}
 
 unfoldable pub bookOut : BookAnswer → BookOut
@@ -32,10 +30,6 @@ bookOut (BookAnswer.Refused e) =
       alarm = false;
       «carry_forward» = false;
     }
-
-unfoldable pub linesOut : LinesAnswer → LinesOut
-linesOut (LinesAnswer.Lines n) = record { number = 0; place = 0; lines = n }
-linesOut (LinesAnswer.Refused e) = record { number = e .number; place = e .place; lines = 0 }
 
 unfoldable pub lineOut : StretchAnswer → LineOut
 lineOut (StretchAnswer.Stretch s) = record { number = 0; place = 0; at = s .place; length = s .length }

@@ -1,25 +1,13 @@
 -- The Calendar file across C, read and exported: number 0 and the values, or the refusal with every value 0.
 -- Assumes nothing.
-use Rattle.calendar.specs.declared.types.CalendarAnswer.{CalendarAnswer}
 use Rattle.calendar.specs.declared.types.DescriptorAnswer.{DescriptorAnswer}
-use Rattle.calendar.specs.declared.types.CountAnswer.{CountAnswer}
 use Rattle.calendar.specs.declared.types.AppointmentAnswer.{AppointmentAnswer}
-use Rattle.export.specs.declared.answers.ExportAnswer.{ExportAnswer}
-use Rattle.marshal.specs.declared.page_answers.CountOut.{CountOut}
 use Rattle.marshal.specs.declared.calendar_answers.DescriptorOut.{DescriptorOut}
 use Rattle.marshal.specs.declared.calendar_answers.AppointmentOut.{AppointmentOut}
-
-unfoldable pub daysOut : CalendarAnswer → CountOut
-daysOut (CalendarAnswer.Accepted n) = record { number = 0; place = 0; count = n }
-daysOut (CalendarAnswer.Refused e) = record { number = e .number; place = e .place; count = 0 }
 
 unfoldable pub descriptorOut : DescriptorAnswer → DescriptorOut
 descriptorOut (DescriptorAnswer.Descriptor d) = record { number = 0; place = 0; day = d .day .0; offset = d .offset }
 descriptorOut (DescriptorAnswer.Refused e) = record { number = e .number; place = e .place; day = 0; offset = 0 }
-
-unfoldable pub appointmentsOut : CountAnswer → CountOut
-appointmentsOut (CountAnswer.Count n) = record { number = 0; place = 0; count = n }
-appointmentsOut (CountAnswer.Refused e) = record { number = e .number; place = e .place; count = 0 }
 
 unfoldable pub appointmentOut : AppointmentAnswer → AppointmentOut
 appointmentOut (AppointmentAnswer.Appointment e) =
@@ -33,8 +21,3 @@ appointmentOut (AppointmentAnswer.Appointment e) =
     }
 appointmentOut (AppointmentAnswer.Refused e) =
     record { number = e .number; place = e .place; «text_at» = 0; «text_length» = 0; minute = 0; flags = 0 }
-
--- the bytes written
-unfoldable pub exportOut : ExportAnswer → CountOut
-exportOut (ExportAnswer.Written n) = record { number = 0; place = 0; count = n }
-exportOut (ExportAnswer.Refused e) = record { number = e .number; place = e .place; count = 0 }

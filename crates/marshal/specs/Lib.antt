@@ -2,6 +2,7 @@
 pub mod BookAnswers
 pub mod CalendarAnswers
 pub mod ChainAnswers
+pub mod CountAnswers
 pub mod DayAnswers
 pub mod HandedOn
 pub mod PageAnswers

@@ -6,11 +6,9 @@ use Rattle.prelude.specs.Choice.{ifB}
 use Rattle.days.specs.declared.types.CalendarDay.{CalendarDay}
 use Rattle.falls.specs.declared.types.ShortMonth.{ShortMonth}
 use Rattle.pages.specs.declared.types.FallsAnswer.{FallsAnswer}
-use Rattle.pages.specs.declared.types.CountAnswer.{CountAnswer}
 use Rattle.pages.specs.declared.types.LineAnswer.{LineAnswer}
 use Rattle.pages.specs.declared.types.NextAnswer.{NextAnswer}
 use Rattle.marshal.specs.declared.page_answers.FallsOut.{FallsOut}
-use Rattle.marshal.specs.declared.page_answers.CountOut.{CountOut}
 use Rattle.marshal.specs.declared.page_answers.PageLineOut.{PageLineOut}
 use Rattle.marshal.specs.declared.page_answers.OccurrenceOut.{OccurrenceOut}
 
@@ -24,10 +22,6 @@ choiceOf last = ifB last ShortMonth.Last ShortMonth.Skip
 unfoldable pub fallsOut : FallsAnswer → FallsOut
 fallsOut (FallsAnswer.Falls b) = record { number = 0; place = 0; falls = b }
 fallsOut (FallsAnswer.Refused e) = record { number = e .number; place = e .place; falls = false }
-
-unfoldable pub countOut : CountAnswer → CountOut
-countOut (CountAnswer.Count n) = record { number = 0; place = 0; count = n }
-countOut (CountAnswer.Refused e) = record { number = e .number; place = e .place; count = 0 }
 
 unfoldable pub pageLineOut : LineAnswer → PageLineOut
 pageLineOut (LineAnswer.Line l) =

@@ -1,8 +1,7 @@
 // Books and the lines of notes; settings go in as a book's answer has them. What an answer shows of a file are places in it.
 ghost use mathlib.Core.Path.{_≡_};
-ghost use Rattle.marshal.specs.BookAnswers.{bookOut, linesOut, lineOut, settingsIn};
+ghost use Rattle.marshal.specs.BookAnswers.{bookOut, lineOut, settingsIn};
 use book::types::BookAnswer;
-use book::types::LinesAnswer;
 use book::types::Settings;
 use book::types::StretchAnswer;
 use days::types::Minute;
@@ -17,13 +16,6 @@ pub struct BookOut {
     pub lead: u16,
     pub alarm: bool,
     pub carry_forward: bool,
-}
-
-#[repr(C)]
-pub struct LinesOut {
-    pub number: u32,
-    pub place: usize,
-    pub lines: usize,
 }
 
 #[repr(C)]
@@ -57,23 +49,6 @@ pub fn book_out(a: BookAnswer) -> BookOut
             lead: 0,
             alarm: false,
             carry_forward: false,
-        },
-    }
-}
-
-pub fn lines_out(a: LinesAnswer) -> LinesOut
-    ensures { λ r. ⌜ r ≡ linesOut a ⌝ }
-{
-    match a {
-        LinesAnswer::Lines(lines) => LinesOut {
-            number: 0,
-            place: 0,
-            lines,
-        },
-        LinesAnswer::Refused(e) => LinesOut {
-            number: e.number,
-            place: e.place,
-            lines: 0,
         },
     }
 }

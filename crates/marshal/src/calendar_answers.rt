@@ -1,12 +1,8 @@
 // The Calendar file, read and exported: counts, its descriptors, and a day's appointments.
 ghost use mathlib.Core.Path.{_≡_};
-ghost use Rattle.marshal.specs.CalendarAnswers.{daysOut, descriptorOut, appointmentsOut, appointmentOut, exportOut};
-use crate::page_answers::CountOut;
+ghost use Rattle.marshal.specs.CalendarAnswers.{descriptorOut, appointmentOut};
 use calendar::types::AppointmentAnswer;
-use calendar::types::CalendarAnswer;
-use calendar::types::CountAnswer;
 use calendar::types::DescriptorAnswer;
-use export::answers::ExportAnswer;
 
 #[repr(C)]
 pub struct DescriptorOut {
@@ -26,23 +22,6 @@ pub struct AppointmentOut {
     pub flags: u16,
 }
 
-pub fn days_out(a: CalendarAnswer) -> CountOut
-    ensures { λ r. ⌜ r ≡ daysOut a ⌝ }
-{
-    match a {
-        CalendarAnswer::Accepted(count) => CountOut {
-            number: 0,
-            place: 0,
-            count,
-        },
-        CalendarAnswer::Refused(e) => CountOut {
-            number: e.number,
-            place: e.place,
-            count: 0,
-        },
-    }
-}
-
 pub fn descriptor_out(a: DescriptorAnswer) -> DescriptorOut
     ensures { λ r. ⌜ r ≡ descriptorOut a ⌝ }
 {
@@ -58,23 +37,6 @@ pub fn descriptor_out(a: DescriptorAnswer) -> DescriptorOut
             place: e.place,
             day: 0,
             offset: 0,
-        },
-    }
-}
-
-pub fn appointments_out(a: CountAnswer) -> CountOut
-    ensures { λ r. ⌜ r ≡ appointmentsOut a ⌝ }
-{
-    match a {
-        CountAnswer::Count(count) => CountOut {
-            number: 0,
-            place: 0,
-            count,
-        },
-        CountAnswer::Refused(e) => CountOut {
-            number: e.number,
-            place: e.place,
-            count: 0,
         },
     }
 }
@@ -98,23 +60,6 @@ pub fn appointment_out(a: AppointmentAnswer) -> AppointmentOut
             text_length: 0,
             minute: 0,
             flags: 0,
-        },
-    }
-}
-
-pub fn export_out(a: ExportAnswer) -> CountOut
-    ensures { λ r. ⌜ r ≡ exportOut a ⌝ }
-{
-    match a {
-        ExportAnswer::Written(count) => CountOut {
-            number: 0,
-            place: 0,
-            count,
-        },
-        ExportAnswer::Refused(e) => CountOut {
-            number: e.number,
-            place: e.place,
-            count: 0,
         },
     }
 }

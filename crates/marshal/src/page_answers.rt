@@ -1,8 +1,7 @@
 // Day pages and the next occurrence. The short-month choice comes as a flag: whether a missing day shows on the month's last day.
 ghost use mathlib.Core.Path.{_≡_};
-ghost use Rattle.marshal.specs.PageAnswers.{choiceOf, fallsOut, countOut, pageLineOut, nextOut};
+ghost use Rattle.marshal.specs.PageAnswers.{choiceOf, fallsOut, pageLineOut, nextOut};
 use falls::types::ShortMonth;
-use pages::types::CountAnswer;
 use pages::types::FallsAnswer;
 use pages::types::LineAnswer;
 use pages::types::NextAnswer;
@@ -12,13 +11,6 @@ pub struct FallsOut {
     pub number: u32,
     pub place: usize,
     pub falls: bool,
-}
-
-#[repr(C)]
-pub struct CountOut {
-    pub number: u32,
-    pub place: usize,
-    pub count: usize,
 }
 
 #[repr(C)]
@@ -64,23 +56,6 @@ pub fn falls_out(a: FallsAnswer) -> FallsOut
             number: e.number,
             place: e.place,
             falls: false,
-        },
-    }
-}
-
-pub fn count_out(a: CountAnswer) -> CountOut
-    ensures { λ r. ⌜ r ≡ countOut a ⌝ }
-{
-    match a {
-        CountAnswer::Count(count) => CountOut {
-            number: 0,
-            place: 0,
-            count,
-        },
-        CountAnswer::Refused(e) => CountOut {
-            number: e.number,
-            place: e.place,
-            count: 0,
         },
     }
 }

@@ -19,7 +19,7 @@ use Rattle.pages.specs.Next.{nextOf}
 use Rattle.pages.specs.declared.types.Ready.{Ready}
 use Rattle.pages.specs.declared.types.Validated.{Validated}
 use Rattle.pages.specs.declared.types.FallsAnswer.{FallsAnswer}
-use Rattle.pages.specs.declared.types.CountAnswer.{CountAnswer}
+use Rattle.prelude.specs.declared.answers.CountAnswer.{CountAnswer}
 use Rattle.pages.specs.declared.types.LineAnswer.{LineAnswer}
 use Rattle.pages.specs.declared.types.NextAnswer.{NextAnswer}
 

@@ -30,11 +30,6 @@ pub enum FallsAnswer {
     Refused(Refusal),
 }
 
-pub enum CountAnswer {
-    Count(usize),
-    Refused(Refusal),
-}
-
 pub enum LineAnswer {
     Line(Line),
     Refused(Refusal),

@@ -12,7 +12,7 @@ use Rattle.days.specs.declared.types.DayFacts.{DayFacts}
 use Rattle.pages.specs.Pages.{Numbered}
 use Rattle.pages.specs.Answers.{validated}
 use Rattle.pages.specs.declared.types.Validated.{Validated}
-use Rattle.pages.specs.declared.types.CountAnswer.{CountAnswer}
+use Rattle.prelude.specs.declared.answers.CountAnswer.{CountAnswer}
 use Rattle.printing.specs.Printed.{pageText}
 
 -- how many bytes the printed page has

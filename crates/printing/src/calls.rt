@@ -17,10 +17,10 @@ use days::types::CalendarDay;
 use days::types::DayFacts;
 use falls::types::ShortMonth;
 use pages::ordering::page_codes;
-use pages::types::CountAnswer;
 use pages::types::Ready;
 use pages::types::Validated;
 use pages::validating::validate;
+use prelude::answers::CountAnswer;
 use prelude::refusals::NO_ROOM;
 use prelude::refusals::Refusal;
 

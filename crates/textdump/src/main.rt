@@ -8,13 +8,13 @@ use calendar::shown::appointment_count;
 use days::types::CalendarDay;
 use digits::words::is_number;
 use digits::words::number_of;
-use export::answers::ExportAnswer;
 use export::calls::export;
 use falls::choice::default_choice;
 use libc::STDIN_FILENO;
 use libc::STDOUT_FILENO;
 use pages::lines::line_text;
 use pages::lines::page_lines;
+use prelude::answers::CountAnswer;
 
 // The day that a word names; one that is no Calendar day for any other word.
 fn day_of(w: &[u8]) -> u16 {
@@ -45,8 +45,8 @@ fn record_count(file: &[u8]) -> usize {
 fn line_count(file: &[u8], day: u16) -> usize {
     let a = page_lines(file, CalendarDay(day), default_choice());
     match a {
-        pages::types::CountAnswer::Count(n) => n,
-        pages::types::CountAnswer::Refused(_) => 0,
+        CountAnswer::Count(n) => n,
+        CountAnswer::Refused(_) => 0,
     }
 }
 
@@ -54,8 +54,8 @@ fn line_count(file: &[u8], day: u16) -> usize {
 fn listed_count(file: &[u8], day: u16) -> usize {
     let a = appointment_count(file, CalendarDay(day));
     match a {
-        calendar::types::CountAnswer::Count(n) => n,
-        calendar::types::CountAnswer::Refused(_) => 0,
+        CountAnswer::Count(n) => n,
+        CountAnswer::Refused(_) => 0,
     }
 }
 
@@ -106,8 +106,8 @@ fn export_day(file: &[u8], day: u16, out: &mut [u8]) -> usize
 {
     let a = export(file, CalendarDay(day), 1, default_choice(), out);
     match a {
-        ExportAnswer::Written(n) => n,
-        ExportAnswer::Refused(_) => 0,
+        CountAnswer::Count(n) => n,
+        CountAnswer::Refused(_) => 0,
     }
 }
 

@@ -12,7 +12,7 @@ use Rattle.calendar.specs.Lists.{firstZero, appointmentOk, listWalkF, li
 use Rattle.calendar.specs.Reader.{calendarMark, calendarIdentified, tableFrom, blockOk, dayVerdict, daysFrom, calendarAnswered, calendarOf}
 use Rattle.calendar.specs.Shown.{placesFrom, placesOn, appointmentAt, appointmentsOn}
 use Rattle.calendar.specs.declared.types.CalendarSettings.{CalendarSettings}
-use Rattle.calendar.specs.declared.types.CalendarAnswer.{CalendarAnswer}
+use Rattle.prelude.specs.declared.answers.CountAnswer.{CountAnswer}
 
 -- lead time 5, alarm on, granularity 30, display from 8:00
 abbrev settings : CalendarSettings
@@ -39,7 +39,7 @@ pub case-written : (fileOf settings days ≡ case) × (length case ≡ 192)
 unfolding fileOf headBytes table descriptorBytes alarms filled blocks blockBytes appointmentsBytes appointmentBytes le16
 case-written = (refl, refl)
 
-pub case-accepted : calendarOf case ≡ CalendarAnswer.Accepted 1
+pub case-accepted : calendarOf case ≡ CountAnswer.Count 1
 unfolding calendarOf calendarAnswered andThen calendarIdentified calendarMark tableFrom daysFrom dayVerdict blockOk listWalkFrom listWalkF appointmentOk firstZero verdictIn ifLt ifEq ifB
 case-accepted = refl
 
@@ -56,6 +56,6 @@ pub empty-written : (fileOf settings [] ≡ emptyCase) × (length emptyCase ≡ 
 unfolding fileOf headBytes table filled blocks le16
 empty-written = (refl, refl)
 
-pub empty-accepted : calendarOf emptyCase ≡ CalendarAnswer.Accepted 0
+pub empty-accepted : calendarOf emptyCase ≡ CountAnswer.Count 0
 unfolding calendarOf calendarAnswered andThen calendarIdentified calendarMark tableFrom daysFrom ifLt ifEq ifB
 empty-accepted = refl

@@ -17,10 +17,10 @@ use Rattle.days.specs.Days.{lastDay}
 use Rattle.calendar.specs.Lists.{verdictIn}
 use Rattle.calendar.specs.Reader.{mostBytes, calendarIdentified, countOf, tableEnd, dayAt, offsetAt, blockAt, listEnd, tableFrom, blockOk, listOf, dayVerdict, daysFrom, calendarAnswered, calendarOf}
 use Rattle.calendar.specs.Invariants.{BlockAt, AcceptedFile}
-use Rattle.calendar.specs.declared.types.CalendarAnswer.{CalendarAnswer}
+use Rattle.prelude.specs.declared.answers.CountAnswer.{CountAnswer}
 use Rattle.calendar.specs.File.{lastBlock}
 
-answer-not : {e : Refusal} {n : ℕ} → CalendarAnswer.Refused e ≡ CalendarAnswer.Accepted n → ⊥
+answer-not : {e : Refusal} {n : ℕ} → CountAnswer.Refused e ≡ CountAnswer.Count n → ⊥
 answer-not c = constructors-differ cc
 
 -- the table: of no descriptor, a day over the last, a day that does not rise, a day that does
@@ -89,11 +89,11 @@ module _ (f : List ℕ) (p : ℕ) where
   unfolding daysFrom
   days-fine k h = both-fine _ _ h
 
-pub answer-fine : (n : ℕ) → calendarAnswered n Verdict.Fine ≡ CalendarAnswer.Accepted n
+pub answer-fine : (n : ℕ) → calendarAnswered n Verdict.Fine ≡ CountAnswer.Count n
 unfolding calendarAnswered
 answer-fine n = refl
 
-answer-taken : (n : ℕ) (v : Verdict) {m : ℕ} → calendarAnswered n v ≡ CalendarAnswer.Accepted m → (m ≡ n) × (v ≡ Verdict.Fine)
+answer-taken : (n : ℕ) (v : Verdict) {m : ℕ} → calendarAnswered n v ≡ CountAnswer.Count m → (m ≡ n) × (v ≡ Verdict.Fine)
 unfolding calendarAnswered
 answer-taken n Verdict.Fine h = (cc, refl)
 answer-taken n (Verdict.Refused e) h = absurd (answer-not h)
@@ -102,7 +102,7 @@ pub head-long : (f : List ℕ) → calendarIdentified f ≡ true → 64 ≤ leng
 unfolding calendarIdentified
 head-long f h = lt-skip (length f) 64 _ _ false≢true h .0
 
-pub calendar-facts : (f : List ℕ) {n : ℕ} → calendarOf f ≡ CalendarAnswer.Accepted n → AcceptedFile f n
+pub calendar-facts : (f : List ℕ) {n : ℕ} → calendarOf f ≡ CountAnswer.Count n → AcceptedFile f n
 unfolding calendarOf
 calendar-facts f {n} h =
     let e1 = lt-skip mostBytes (length f) _ _ answer-not h in
@@ -112,7 +112,7 @@ calendar-facts f {n} h =
     let e5 = both-fine _ _ (e4 .1) in
     record { size = e1 .0; named = e2 .0; count = e4 .0; whole = e3 .0; rises = e5 .0; days = e5 .1 }
 
-pub facts-calendar : (f : List ℕ) (n : ℕ) → AcceptedFile f n → calendarOf f ≡ CalendarAnswer.Accepted n
+pub facts-calendar : (f : List ℕ) (n : ℕ) → AcceptedFile f n → calendarOf f ≡ CountAnswer.Count n
 unfolding calendarOf
 facts-calendar f n a =
     rw (is-ge (a .size), is-true (a .named), is-ge (a .whole), then-fine _ refl (a .rises), a .days, answer-fine, ← (a .count))

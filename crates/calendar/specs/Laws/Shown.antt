@@ -12,8 +12,7 @@ use Rattle.days.specs.Days.{lastDay}
 use Rattle.calendar.specs.File.{Appointment}
 use Rattle.calendar.specs.Reader.{calendarOf}
 use Rattle.calendar.specs.Shown.{placesOn, appointmentAt, appointmentsOn, shownAt, countFrom, countAnswer, appointmentAmong, appointmentFrom, appointmentAnswer}
-use Rattle.calendar.specs.declared.types.CalendarAnswer.{CalendarAnswer}
-use Rattle.calendar.specs.declared.types.CountAnswer.{CountAnswer}
+use Rattle.prelude.specs.declared.answers.CountAnswer.{CountAnswer}
 use Rattle.calendar.specs.declared.types.StoredAppointment.{StoredAppointment}
 use Rattle.calendar.specs.declared.types.AppointmentAnswer.{AppointmentAnswer}
 
@@ -39,10 +38,10 @@ appointment-inj : {a b : StoredAppointment} → AppointmentAnswer.Appointment a 
 appointment-inj e = cc
 
 -- the number of appointments
-counted : (f : List ℕ) (d : ℕ) {n : ℕ} (a : CalendarAnswer) → countFrom f d a ≡ CountAnswer.Count n → n ≡ length (appointmentsOn f d)
+counted : (f : List ℕ) (d : ℕ) {n : ℕ} (a : CountAnswer) → countFrom f d a ≡ CountAnswer.Count n → n ≡ length (appointmentsOn f d)
 unfolding countFrom
-counted f d (CalendarAnswer.Accepted m) h = sym (count-inj (lt-skip lastDay d _ _ count-not h .1)) ∙ sym (length-shown f d)
-counted f d (CalendarAnswer.Refused e) h = absurd (count-not h)
+counted f d (CountAnswer.Count m) h = sym (count-inj (lt-skip lastDay d _ _ count-not h .1)) ∙ sym (length-shown f d)
+counted f d (CountAnswer.Refused e) h = absurd (count-not h)
 
 pub count-shown : (f : List ℕ) (d : ℕ) {n : ℕ} → countAnswer f d ≡ CountAnswer.Count n → n ≡ length (appointmentsOn f d)
 unfolding countAnswer
@@ -57,12 +56,12 @@ nth : (f : List ℕ) (d k : ℕ) → getD (appointmentsOn f d) k (appointmentAt 
 unfolding appointmentsOn
 nth f d k = List·getD-map (appointmentAt f) (placesOn f d) k 0 ∙ unfold appointmentAt shownAt in refl
 
-given : (f : List ℕ) (d k : ℕ) {e : StoredAppointment} (a : CalendarAnswer) → appointmentFrom f d k a ≡ AppointmentAnswer.Appointment e → ShownAt f d k e
+given : (f : List ℕ) (d k : ℕ) {e : StoredAppointment} (a : CountAnswer) → appointmentFrom f d k a ≡ AppointmentAnswer.Appointment e → ShownAt f d k e
 unfolding appointmentFrom appointmentAmong
-given f d k {e} (CalendarAnswer.Accepted m) h =
+given f d k {e} (CountAnswer.Count m) h =
     let p = lt-take k (length (placesOn f d)) _ _ appointment-not (lt-skip lastDay d _ _ appointment-not h .1) in
     record { there = rw (length-shown f d) (p .0); same = nth f d k ∙ ap (shownAs f) (appointment-inj (p .1)) }
-given f d k (CalendarAnswer.Refused r) h = absurd (appointment-not h)
+given f d k (CountAnswer.Refused r) h = absurd (appointment-not h)
 
 pub appointment-shown : (f : List ℕ) (d k : ℕ) {e : StoredAppointment} → appointmentAnswer f d k ≡ AppointmentAnswer.Appointment e → ShownAt f d k e
 unfolding appointmentAnswer

@@ -15,7 +15,7 @@ use Rattle.calendar.specs.Shown.{placesOn, appointmentsOn}
 use Rattle.calendar.specs.Laws.Reader.{facts-calendar}
 use Rattle.calendar.specs.Laws.File.{length-block, length-table, length-head, length-filled, filled-piece, length-blocks, length-file}
 use Rattle.calendar.specs.declared.types.CalendarSettings.{CalendarSettings}
-use Rattle.calendar.specs.declared.types.CalendarAnswer.{CalendarAnswer}
+use Rattle.prelude.specs.declared.answers.CountAnswer.{CountAnswer}
 use Rattle.calendar_writer.specs.Laws.From.{From, from-start, from-recast, moved-to, from-skip, word-here}
 use Rattle.calendar_writer.specs.Laws.TableRead.{GoodDays, listOn, TableRead, table-read}
 
@@ -65,7 +65,7 @@ module _ (s : CalendarSettings) (ds : List Day) where
     read : TableRead file 64 0 ds
     read = table-read 64 first 0 ds _ [] good (omega (arith, table-end)) (from-recast behind-head (filled-piece (table first ds) (blocks ds))) (from-recast at-blocks (sym (append-nil (blocks ds))))
 
-    pub file-accepted : calendarOf file ≡ CalendarAnswer.Accepted (length ds)
+    pub file-accepted : calendarOf file ≡ CountAnswer.Count (length ds)
     file-accepted =
         let c : countOf file ≡ length ds = file-counted few in
         let l : length file ≡ 64 * first + length (blocks ds) = length-file s ds in

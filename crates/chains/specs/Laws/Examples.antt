@@ -8,21 +8,21 @@ use Rattle.prelude.specs.Choice.{ifLt, ifEq, ifB}
 use Rattle.prelude.specs.Refusals.{refusalAt}
 use Rattle.prelude.specs.Verdicts.{unlessBad, andThen, inTurn}
 use Rattle.chains.specs.Chains.{sizesOk, dateBefore, entryBad, headBefore, headBad, walk, nextBad, linked, valuesBad, misplaced, orderedAfter, ordered, chainsJudged, chainsVerdict, chainsAnswered, chainsAnswer}
-use Rattle.chains.specs.declared.types.ChainsAnswer.{ChainsAnswer}
+use Rattle.prelude.specs.declared.answers.CountAnswer.{CountAnswer}
 
 -- two days: 1 then 0, and 2
 abbrev table : List ℕ
 table = 93 ∷ 3 ∷ 22 ∷ 1 ∷ 0 ∷ (93 ∷ 3 ∷ 26 ∷ 2 ∷ 0 ∷ (9 ∷ 9 ∷ 9 ∷ 255 ∷ 255 ∷ []))
 
-abbrev refused : ℕ → ℕ → ChainsAnswer
-refused n p = ChainsAnswer.Refused (refusalAt n p)
+abbrev refused : ℕ → ℕ → CountAnswer
+refused n p = CountAnswer.Refused (refusalAt n p)
 
 pub examples :
-    (chainsAnswer table (1 ∷ 65535 ∷ 65535 ∷ []) (65535 ∷ 0 ∷ 65535 ∷ []) (1 ∷ 1 ∷ 2 ∷ []) (600 ∷ 600 ∷ 9999 ∷ []) ≡ ChainsAnswer.Days 2)
+    (chainsAnswer table (1 ∷ 65535 ∷ 65535 ∷ []) (65535 ∷ 0 ∷ 65535 ∷ []) (1 ∷ 1 ∷ 2 ∷ []) (600 ∷ 600 ∷ 9999 ∷ []) ≡ CountAnswer.Count 2)
     × (chainsAnswer table (2 ∷ 65535 ∷ 65535 ∷ []) (65535 ∷ 0 ∷ 65535 ∷ []) (1 ∷ 1 ∷ 2 ∷ []) (600 ∷ 600 ∷ 0 ∷ []) ≡ refused 32 1)
     × (chainsAnswer table (1 ∷ 65535 ∷ 65535 ∷ []) (65535 ∷ 0 ∷ 65535 ∷ []) (0 ∷ 1 ∷ 2 ∷ []) (600 ∷ 600 ∷ 0 ∷ []) ≡ refused 33 0)
     × (chainsAnswer (93 ∷ 3 ∷ 22 ∷ 255 ∷ 255 ∷ (1 ∷ 2 ∷ [])) [] [] [] [] ≡ refused 31 0)
-    × (chainsAnswer (93 ∷ 3 ∷ 22 ∷ 255 ∷ 255 ∷ []) [] [] [] [] ≡ ChainsAnswer.Days 0)
+    × (chainsAnswer (93 ∷ 3 ∷ 22 ∷ 255 ∷ 255 ∷ []) [] [] [] [] ≡ CountAnswer.Count 0)
     × (chainsAnswer [] [] [] [] [] ≡ refused 31 0)
     × (chainsAnswer table (1 ∷ 65535 ∷ 65535 ∷ []) (65535 ∷ 0 ∷ []) (1 ∷ 1 ∷ 2 ∷ []) (600 ∷ 600 ∷ 0 ∷ []) ≡ refused 30 0)
     -- a next back to its own head; the first of two minutes later than the second; an appointment at 1,440; a head that has a previous
@@ -56,6 +56,6 @@ sourceNext =
     ∷ 0 ∷ 0 ∷ 0 ∷ 4 ∷ 0 ∷ 0 ∷ 0 ∷ 65535 ∷ []
 
 -- the source names no kinds and no times: all are events here
-pub source-example : chainsAnswer sourceTable sourcePrevious sourceNext (replicate 83 0) (replicate 83 0) ≡ ChainsAnswer.Days 16
+pub source-example : chainsAnswer sourceTable sourcePrevious sourceNext (replicate 83 0) (replicate 83 0) ≡ CountAnswer.Count 16
 unfolding chainsAnswer chainsAnswered chainsVerdict chainsJudged unlessBad andThen inTurn sizesOk dateBefore entryBad headBefore headBad walk nextBad linked valuesBad misplaced orderedAfter ordered ifLt ifEq ifB
 source-example = refl

@@ -15,7 +15,7 @@ use Rattle.prelude.specs.Laws.Verdicts.{fine-good, both-fine, all-fine}
 use Rattle.prelude.specs.declared.refusals.Verdict.{Verdict}
 use Rattle.chains.specs.Chains.{fieldOf, noRecord, mostRecords, sizesOk, entries, days, headAt, headBefore, headBad, chainAt, nextBad, linked, entryVerdict, headVerdict, linksVerdict, chainsJudged, chainsVerdict, chainsAnswered, chainsAnswer}
 use Rattle.chains.specs.Stages.{EqualLengths, Linked, Passed}
-use Rattle.chains.specs.declared.types.ChainsAnswer.{ChainsAnswer}
+use Rattle.prelude.specs.declared.answers.CountAnswer.{CountAnswer}
 
 pub sizes-in : (previous next kind minute : List ℕ) {v : Bool} → v ≡ sizesOk (length previous) (length next) (length kind) (length minute) → v ≡ true → EqualLengths previous next kind minute
 unfolding sizesOk
@@ -63,18 +63,18 @@ fine-passed t previous next kind minute e =
     }
 
 -- only a fine verdict is answered with days, as many as were counted
-days-fine : (k : ℕ) (v : Verdict) (n : ℕ) → chainsAnswered k v ≡ ChainsAnswer.Days n → (v ≡ Verdict.Fine) × (n ≡ k)
+days-fine : (k : ℕ) (v : Verdict) (n : ℕ) → chainsAnswered k v ≡ CountAnswer.Count n → (v ≡ Verdict.Fine) × (n ≡ k)
 unfolding chainsAnswered
 days-fine k Verdict.Fine n e = (refl, cc)
 days-fine k (Verdict.Refused x) n e = absurd (constructors-differ cc)
 
-pub accepted-passed : (t previous next kind minute : List ℕ) (n : ℕ) → chainsAnswer t previous next kind minute ≡ ChainsAnswer.Days n → Passed t previous next kind minute × (n ≡ days t)
+pub accepted-passed : (t previous next kind minute : List ℕ) (n : ℕ) → chainsAnswer t previous next kind minute ≡ CountAnswer.Count n → Passed t previous next kind minute × (n ≡ days t)
 unfolding chainsAnswer
 accepted-passed t previous next kind minute n e =
     let f = days-fine _ _ n e in
     (fine-passed t previous next kind minute (f .0), f .1)
 
-pub accepted-linked : (t previous next kind minute : List ℕ) (n : ℕ) → chainsAnswer t previous next kind minute ≡ ChainsAnswer.Days n → Linked t previous next
+pub accepted-linked : (t previous next kind minute : List ℕ) (n : ℕ) → chainsAnswer t previous next kind minute ≡ CountAnswer.Count n → Linked t previous next
 accepted-linked t previous next kind minute n e =
     let p = accepted-passed t previous next kind minute n e .0 in
     judged-linked t previous next kind minute (days t) refl (p .sizes) refl (p .head-fine) refl (p .links-fine)

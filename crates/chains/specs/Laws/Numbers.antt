@@ -13,7 +13,7 @@ use Rattle.prelude.specs.Verdicts.{refused, unlessBad, andThen, inTurn}
 use Rattle.prelude.specs.declared.refusals.Refusal.{Refusal}
 use Rattle.prelude.specs.declared.refusals.Verdict.{Verdict}
 use Rattle.chains.specs.Chains.{entries, days, entryBad, headBad, chainAt, linked, orderedAfter, ordered, entryVerdict, headVerdict, linksVerdict, orderVerdict, chainsJudged, chainsVerdict, chainsAnswered, chainsAnswer}
-use Rattle.chains.specs.declared.types.ChainsAnswer.{ChainsAnswer}
+use Rattle.prelude.specs.declared.answers.CountAnswer.{CountAnswer}
 
 abbrev Numbered : Verdict → Type 0
 Numbered v = (e : Refusal) → v ≡ Verdict.Refused e → (30 ≤ e .number) × (e .number ≤ 33)
@@ -77,11 +77,11 @@ verdict-numbered t previous next kind minute =
     (eq-elim Numbered (entries t) 0 _ _ (λ _. refused-numbered badDayTable 0 (omega arith) (omega arith)) (λ _. judged-numbered t previous next kind minute))
     (refused-numbered badArrays 0 (omega arith) (omega arith))
 
-answered-refused : (n : ℕ) (v : Verdict) (e : Refusal) → chainsAnswered n v ≡ ChainsAnswer.Refused e → v ≡ Verdict.Refused e
+answered-refused : (n : ℕ) (v : Verdict) (e : Refusal) → chainsAnswered n v ≡ CountAnswer.Refused e → v ≡ Verdict.Refused e
 unfolding chainsAnswered
 answered-refused n Verdict.Fine e h = absurd (constructors-differ cc)
 answered-refused n (Verdict.Refused x) e h = cc
 
-pub refusal-number : (t previous next kind minute : List ℕ) (e : Refusal) → chainsAnswer t previous next kind minute ≡ ChainsAnswer.Refused e → (30 ≤ e .number) × (e .number ≤ 33)
+pub refusal-number : (t previous next kind minute : List ℕ) (e : Refusal) → chainsAnswer t previous next kind minute ≡ CountAnswer.Refused e → (30 ≤ e .number) × (e .number ≤ 33)
 unfolding chainsAnswer
 refusal-number t previous next kind minute e h = verdict-numbered t previous next kind minute e (answered-refused _ _ e h)

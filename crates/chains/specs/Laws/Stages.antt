@@ -13,7 +13,7 @@ use Rattle.prelude.specs.declared.refusals.Refusal.{Refusal}
 use Rattle.prelude.specs.declared.refusals.Verdict.{Verdict}
 use Rattle.chains.specs.Chains.{sizesOk, entries, days, entryVerdict, headVerdict, linksVerdict, orderVerdict, chainsJudged, chainsVerdict, chainsAnswered, chainsAnswer}
 use Rattle.chains.specs.Stages.{Passed}
-use Rattle.chains.specs.declared.types.ChainsAnswer.{ChainsAnswer}
+use Rattle.prelude.specs.declared.answers.CountAnswer.{CountAnswer}
 
 -- table and records, with as many entries as were counted
 module _ (t previous next kind minute : List ℕ) (count : ℕ) (e : count ≡ entries t) where
@@ -37,16 +37,16 @@ module _ (t previous next kind minute : List ℕ) (count : ℕ) (e : count ≡ e
 
 -- the answer
 module _ (t previous next kind minute : List ℕ) {v : Verdict} (e : v ≡ chainsVerdict t previous next kind minute) where
-  pub answer-days : {count : ℕ} → count ≡ entries t → v ≡ Verdict.Fine → ChainsAnswer.Days (count - 1) ≡ chainsAnswer t previous next kind minute
+  pub answer-days : {count : ℕ} → count ≡ entries t → v ≡ Verdict.Fine → CountAnswer.Count (count - 1) ≡ chainsAnswer t previous next kind minute
   unfolding chainsAnswer chainsAnswered
   answer-days c f = rw (← e, f, c)
 
-  pub answer-refused : {x : Refusal} → v ≡ Verdict.Refused x → ChainsAnswer.Refused x ≡ chainsAnswer t previous next kind minute
+  pub answer-refused : {x : Refusal} → v ≡ Verdict.Refused x → CountAnswer.Refused x ≡ chainsAnswer t previous next kind minute
   unfolding chainsAnswer chainsAnswered
   answer-refused f = rw (← e, f)
 
 -- all stages passed
-pub passed-answer : (t previous next kind minute : List ℕ) → Passed t previous next kind minute → chainsAnswer t previous next kind minute ≡ ChainsAnswer.Days (days t)
+pub passed-answer : (t previous next kind minute : List ℕ) → Passed t previous next kind minute → chainsAnswer t previous next kind minute ≡ CountAnswer.Count (days t)
 unfolding chainsVerdict sizesOk
 passed-answer t previous next kind minute p =
     let z = p .sizes in

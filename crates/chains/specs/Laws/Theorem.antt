@@ -15,7 +15,7 @@ use Rattle.chains.specs.Laws.Runs.{Back, runs-meet, pigeonhole}
 use Rattle.chains.specs.Stages.{Linked, StepsIn, EndsIn, ChainsEnd}
 use Rattle.chains.specs.Laws.Linked.{accepted-linked, head-in, head-not, next-in}
 use Rattle.chains.specs.Laws.Steps.{one-more, walk-reached, reached-walk, walk-steps, run-is}
-use Rattle.chains.specs.declared.types.ChainsAnswer.{ChainsAnswer}
+use Rattle.prelude.specs.declared.answers.CountAnswer.{CountAnswer}
 
 -- a walk that ends, and at a record with no next
 record Ended (next : List ℕ) (r : ℕ) : Type 0 where
@@ -99,5 +99,5 @@ accepted-chains t previous next kind minute n e =
     record { apart = apart t previous next g; ends = ends t previous next g }
 
 -- so an answer that is as defined keeps what it promises
-pub chains-promised : (t previous next kind minute : List ℕ) {answer : ChainsAnswer} → answer ≡ chainsAnswer t previous next kind minute → (answer ≡ chainsAnswer t previous next kind minute) × Promised t next answer
+pub chains-promised : (t previous next kind minute : List ℕ) {answer : CountAnswer} → answer ≡ chainsAnswer t previous next kind minute → (answer ≡ chainsAnswer t previous next kind minute) × Promised t next answer
 chains-promised t previous next kind minute e = (e, λ n f. accepted-chains t previous next kind minute n (sym e ∙ f))

@@ -17,7 +17,7 @@ use Rattle.chains.specs.Laws.Order.{chain-sorted, sorted-chain}
 use Rattle.chains.specs.Laws.Linked.{accepted-passed, judged-linked, head-in, head-not, next-in}
 use Rattle.chains.specs.Laws.Stages.{passed-answer}
 use Rattle.chains.specs.Laws.Walks.{next-none, next-back}
-use Rattle.chains.specs.declared.types.ChainsAnswer.{ChainsAnswer}
+use Rattle.prelude.specs.declared.answers.CountAnswer.{CountAnswer}
 
 -- an entry before the last, and the last
 module _ (t : List ℕ) (i : ℕ) where
@@ -120,10 +120,10 @@ module _ (t previous next kind minute : List ℕ) where
       head i l = head-good t previous i (v .heads i l) (λ j m. v .apart j i m l)
 
   -- "Accept exactly when": an answer that accepts, and chains that are as the sentence says
-  pub accepted-valid : (n : ℕ) → chainsAnswer t previous next kind minute ≡ ChainsAnswer.Days n → ValidChains t previous next kind minute × (n ≡ days t)
+  pub accepted-valid : (n : ℕ) → chainsAnswer t previous next kind minute ≡ CountAnswer.Count n → ValidChains t previous next kind minute × (n ≡ days t)
   accepted-valid n e =
       let p = accepted-passed t previous next kind minute n e in
       (passed-valid (p .0), p .1)
 
-  pub valid-accepted : ValidChains t previous next kind minute → chainsAnswer t previous next kind minute ≡ ChainsAnswer.Days (days t)
+  pub valid-accepted : ValidChains t previous next kind minute → chainsAnswer t previous next kind minute ≡ CountAnswer.Count (days t)
   valid-accepted v = passed-answer t previous next kind minute (valid-passed v)

@@ -19,14 +19,13 @@ use Rattle.pages.specs.Answers.{validatedDay, validated}
 use Rattle.pages.specs.Laws.Pages.{validated-ready}
 use Rattle.pages.specs.declared.types.Ready.{Ready}
 use Rattle.pages.specs.declared.types.Validated.{Validated}
-use Rattle.pages.specs.declared.types.CountAnswer.{CountAnswer}
+use Rattle.prelude.specs.declared.answers.CountAnswer.{CountAnswer}
 use Rattle.pages.specs.Pages.{fallsOn}
 use Rattle.printing.specs.Printed.{pageText}
 use Rattle.printing.specs.Answers.{printIn, printLeaves}
 use Rattle.printing.specs.Laws.Sizes.{page-most}
 use Rattle.export.specs.Export.{spanOk, exportFile, exportFrom, exportAnswer, exportLeaves, showsUnder}
 use Rattle.export.specs.Laws.Answers.{export-success, left-refused, left-written}
-use Rattle.export.specs.declared.answers.ExportAnswer.{ExportAnswer}
 use Rattle.commands.specs.Responses.{programRoom, refusalText, pageResponse, exportText, exportResponse, otherResponse, response}
 use Rattle.commands.specs.declared.types.Command.{Command}
 
@@ -125,7 +124,7 @@ module _ (f : List ℕ) (c : ShortMonth) (first count : ℕ) (out : List ℕ) wh
     pub put : exportLeaves (showsUnder c) f first count out ≡ splice out 0 (exportResponse f c (length out) first count)
     pub within : n ≤ length out
 
-  pub export-written : {n : ℕ} → exportAnswer (showsUnder c) f first count (length out) ≡ ExportAnswer.Written n → Exported n
+  pub export-written : {n : ℕ} → exportAnswer (showsUnder c) f first count (length out) ≡ CountAnswer.Count n → Exported n
   unfolding exportResponse exportText
   export-written {n} e =
       let s = export-success (showsUnder c) f first count (length out) n e in
@@ -136,7 +135,7 @@ module _ (f : List ℕ) (c : ShortMonth) (first count : ℕ) (out : List ℕ) wh
         within = s .enough;
       }
 
-  pub export-refused : {e : Refusal} → exportAnswer (showsUnder c) f first count (length out) ≡ ExportAnswer.Refused e → (exportResponse f c (length out) first count ≡ refusalText e) × (exportLeaves (showsUnder c) f first count out ≡ out)
+  pub export-refused : {e : Refusal} → exportAnswer (showsUnder c) f first count (length out) ≡ CountAnswer.Refused e → (exportResponse f c (length out) first count ≡ refusalText e) × (exportLeaves (showsUnder c) f first count out ≡ out)
   unfolding exportResponse exportText
   export-refused e =
       (ap (exportText (exportFile (showsUnder c) f first count)) e, left-refused (showsUnder c) f first count out e)

@@ -15,7 +15,7 @@ use Rattle.book.specs.Laws.Entries.{record-found}
 use Rattle.book.specs.SameBook.{SameTexts, SameBook}
 use Rattle.book.specs.declared.types.BookAnswer.{BookAnswer}
 use Rattle.book.specs.declared.types.Entry.{Entry}
-use Rattle.book.specs.declared.types.LinesAnswer.{LinesAnswer}
+use Rattle.prelude.specs.declared.answers.CountAnswer.{CountAnswer}
 use Rattle.book.specs.declared.types.RecordAnswer.{RecordAnswer}
 
 module _ (f g : List ℕ) (s : SameBook f g) (k : ℕ) where
@@ -60,7 +60,7 @@ module _ (f g : List ℕ) (s : SameBook f g) (k : ℕ) where
   note-lines-same = ap (λ (a : RecordAnswer). linesIn g (noteFrom a)) record-same ∙ by (recordAnswer f k) refl
     where
       by : (a : RecordAnswer) → recordAnswer f k ≡ a → linesIn g (noteFrom a) ≡ linesIn f (noteFrom a)
-      by (RecordAnswer.Record e) q = ap (λ (t : List ℕ). LinesAnswer.Lines (length (linesOf t))) (texts-same q .note)
+      by (RecordAnswer.Record e) q = ap (λ (t : List ℕ). CountAnswer.Count (length (linesOf t))) (texts-same q .note)
       by (RecordAnswer.Refused r) q = refl
 
   pub note-line-same : (j : ℕ) → lineAnswer g k j ≡ lineAnswer f k j

@@ -18,7 +18,7 @@ use Rattle.book.specs.declared.types.BookAnswer.{BookAnswer}
 use Rattle.pages.specs.Pages.{Numbered}
 use Rattle.calendar_writer.specs.DayLists.{pastLastBlock, mostDays}
 use Rattle.export.specs.Export.{spanOk, exportDays, exportFile, sized, spanAnswer, exportFrom, exportAnswer, leavesFile, exportLeaves}
-use Rattle.export.specs.declared.answers.ExportAnswer.{ExportAnswer}
+use Rattle.prelude.specs.declared.answers.CountAnswer.{CountAnswer}
 
 -- a first day and a count in range
 pub record Span (first count : ℕ) : Type 0 where
@@ -48,23 +48,23 @@ pub count-beyond : (first count : ℕ) → mostDays < count → spanOk first cou
 unfolding spanOk
 count-beyond first count h = lt-elim (λ b. b ≡ false) lastDay first _ _ (λ _. refl) (λ _. is-lt h _ _)
 
-refused-not : {e : Refusal} {n : ℕ} → ExportAnswer.Refused e ≡ ExportAnswer.Written n → ⊥
+refused-not : {e : Refusal} {n : ℕ} → CountAnswer.Refused e ≡ CountAnswer.Count n → ⊥
 refused-not c = constructors-differ cc
 
-written-inj : {n m : ℕ} → ExportAnswer.Written n ≡ ExportAnswer.Written m → n ≡ m
+written-inj : {n m : ℕ} → CountAnswer.Count n ≡ CountAnswer.Count m → n ≡ m
 written-inj e = cc
 
 module _ (shows : ℕ → Numbered → Bool) (f : List ℕ) (first count : ℕ) where
   -- the two sizes
-  pub span-past : (room : ℕ) → pastLastBlock (exportDays shows f first count) ≡ true → spanAnswer shows f first count room ≡ ExportAnswer.Refused (refusal tooManyBlocks)
+  pub span-past : (room : ℕ) → pastLastBlock (exportDays shows f first count) ≡ true → spanAnswer shows f first count room ≡ CountAnswer.Refused (refusal tooManyBlocks)
   unfolding spanAnswer sized
   span-past room h = is-true h _ _
 
-  pub span-short : {room : ℕ} → pastLastBlock (exportDays shows f first count) ≡ false → room < length (exportFile shows f first count) → spanAnswer shows f first count room ≡ ExportAnswer.Refused (refusal noRoom)
+  pub span-short : {room : ℕ} → pastLastBlock (exportDays shows f first count) ≡ false → room < length (exportFile shows f first count) → spanAnswer shows f first count room ≡ CountAnswer.Refused (refusal noRoom)
   unfolding spanAnswer sized
   span-short h l = is-false h _ _ ∙ is-lt l _ _
 
-  pub span-fits : {room : ℕ} → pastLastBlock (exportDays shows f first count) ≡ false → length (exportFile shows f first count) ≤ room → spanAnswer shows f first count room ≡ ExportAnswer.Written (length (exportFile shows f first count))
+  pub span-fits : {room : ℕ} → pastLastBlock (exportDays shows f first count) ≡ false → length (exportFile shows f first count) ≤ room → spanAnswer shows f first count room ≡ CountAnswer.Count (length (exportFile shows f first count))
   unfolding spanAnswer sized
   span-fits h l = is-false h _ _ ∙ is-ge l _ _
 
@@ -82,7 +82,7 @@ module _ (shows : ℕ → Numbered → Bool) (f : List ℕ) (first count : ℕ) 
     pub long : length (exportFile shows f first count) ≡ n
     pub enough : n ≤ room
 
-  sized-written : (room size n : ℕ) (past : Bool) → sized room past size ≡ ExportAnswer.Written n → (past ≡ false) × (size ≡ n) × (n ≤ room)
+  sized-written : (room size n : ℕ) (past : Bool) → sized room past size ≡ CountAnswer.Count n → (past ≡ false) × (size ≡ n) × (n ≤ room)
   unfolding sized
   sized-written room size n past h =
       let e1 = b-skip past _ _ refused-not h in
@@ -90,11 +90,11 @@ module _ (shows : ℕ → Numbered → Bool) (f : List ℕ) (first count : ℕ) 
       let e3 : size ≡ n = written-inj (e2 .1) in
       (e1 .0, e3, omega (arith, e2 .0))
 
-  pub span-written : (room n : ℕ) → spanAnswer shows f first count room ≡ ExportAnswer.Written n → (pastLastBlock (exportDays shows f first count) ≡ false) × (length (exportFile shows f first count) ≡ n) × (n ≤ room)
+  pub span-written : (room n : ℕ) → spanAnswer shows f first count room ≡ CountAnswer.Count n → (pastLastBlock (exportDays shows f first count) ≡ false) × (length (exportFile shows f first count) ≡ n) × (n ≤ room)
   unfolding spanAnswer
   span-written room n h = sized-written room (length (exportFile shows f first count)) n (pastLastBlock (exportDays shows f first count)) h
 
-  success-from : (room n : ℕ) (b : BookAnswer) → bookOf f ≡ b → exportFrom shows f first count room b ≡ ExportAnswer.Written n → Success room n
+  success-from : (room n : ℕ) (b : BookAnswer) → bookOf f ≡ b → exportFrom shows f first count room b ≡ CountAnswer.Count n → Success room n
   unfolding exportFrom
   success-from room n (BookAnswer.Accepted b) e h =
       let s = b-take (spanOk first count) _ _ refused-not h in
@@ -102,17 +102,17 @@ module _ (shows : ℕ → Numbered → Bool) (f : List ℕ) (first count : ℕ) 
       record { book = b; accepted = e; span = span-facts (s .0); near = z .0; long = z .1; enough = z .2 }
   success-from room n (BookAnswer.Refused r) e h = absurd (refused-not h)
 
-  pub export-success : (room n : ℕ) → exportAnswer shows f first count room ≡ ExportAnswer.Written n → Success room n
+  pub export-success : (room n : ℕ) → exportAnswer shows f first count room ≡ CountAnswer.Count n → Success room n
   unfolding exportAnswer
   export-success room n h = success-from room n (bookOf f) refl h
 
   -- the buffer after a refusal
-  pub left-refused : (out : List ℕ) {e : Refusal} → exportAnswer shows f first count (length out) ≡ ExportAnswer.Refused e → exportLeaves shows f first count out ≡ out
+  pub left-refused : (out : List ℕ) {e : Refusal} → exportAnswer shows f first count (length out) ≡ CountAnswer.Refused e → exportLeaves shows f first count out ≡ out
   unfolding exportLeaves leavesFile
   left-refused out h = ap (leavesFile (exportFile shows f first count) out) h
 
   -- after success it begins with the file, and the bytes past it are as before
-  module _ (out : List ℕ) (n : ℕ) (h : exportAnswer shows f first count (length out) ≡ ExportAnswer.Written n) where
+  module _ (out : List ℕ) (n : ℕ) (h : exportAnswer shows f first count (length out) ≡ CountAnswer.Count n) where
     pub left-written : exportLeaves shows f first count out ≡ splice out 0 (exportFile shows f first count)
     unfolding exportLeaves leavesFile
     left-written = ap (leavesFile (exportFile shows f first count) out) h

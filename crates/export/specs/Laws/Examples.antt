@@ -31,7 +31,7 @@ use Rattle.calendar.specs.File.{zeros, filled, appointmentBytes, appointmentsBy
 use Rattle.calendar_writer.specs.DayLists.{addDay, daysWith, pastLastBlockFrom, pastLastBlock}
 use Rattle.export.specs.Export.{codeOf, intervalOf, settingsFor, specialTime, appointmentOf, appointmentsFor, exportDays, exportFile, sized, spanAnswer, spanOk, exportFrom, exportAnswer, leavesFile, exportLeaves, showsUnder}
 use Rattle.export.specs.Demand.{dayList, busyDays, fileSize}
-use Rattle.export.specs.declared.answers.ExportAnswer.{ExportAnswer}
+use Rattle.prelude.specs.declared.answers.CountAnswer.{CountAnswer}
 use Rattle.calendar.specs.Laws.Examples as calendar
 
 abbrev shows : ℕ → Numbered → Bool
@@ -53,7 +53,7 @@ unfolding total busyDays pageOf sort insert keep numbered numberedFrom entriesOf
 case-sizes = (refl, refl, refl)
 
 -- a room of 192 bytes is just enough; the program's
-pub case-answers : (exportAnswer shows case 4820 7 192 ≡ ExportAnswer.Written 192) × (exportAnswer shows case 4820 7 191 ≡ ExportAnswer.Refused (refusal noRoom)) × (exportAnswer shows case 4820 7 65536 ≡ ExportAnswer.Written 192)
+pub case-answers : (exportAnswer shows case 4820 7 192 ≡ CountAnswer.Count 192) × (exportAnswer shows case 4820 7 191 ≡ CountAnswer.Refused (refusal noRoom)) × (exportAnswer shows case 4820 7 65536 ≡ CountAnswer.Count 192)
 unfolding exportAnswer exportFrom spanAnswer sized pastLastBlock pastLastBlockFrom spanOk bookOf counted accepted fillersFrom afterEndRecord bookIdentified bookMark settingsOk settingsInRange flagsOk exportFile exportDays daysWith addDay appointmentsFor appointmentOf specialTime settingsFor intervalOf codeOf bit settingsOf pageOf sort insert keep numbered numberedFrom entriesOf entryAt placesOf placesIn walkOf walkFrom walkF stepAt judgeHead bodyStep judgeBody lengthsOk lengthsFit fieldsOk textsOk datedOf recordOf fixedOf datedOk timesOk real monthLength leap noZero noteOk linesOf shortLines timesOf falls datedFalls factsOf dateOf nextDate weekdayOf nextWeekday fileOf headBytes table descriptorBytes alarms filled blocks blockBytes appointmentsBytes appointmentBytes le16 ifLt ifEq ifB
 case-answers = (refl, refl, refl)
 

@@ -40,7 +40,7 @@ use Rattle.export.specs.Laws.Records.{good-book}
 use Rattle.export.specs.Passes.{AtMost, keptIn, Weighed}
 use Rattle.export.specs.Invariants.{MarksShown, ReadyToFill, Gathered}
 use Rattle.export.specs.Laws.Ready.{gathered-ordered, ready-sums}
-use Rattle.export.specs.declared.answers.ExportAnswer.{ExportAnswer}
+use Rattle.prelude.specs.declared.answers.CountAnswer.{CountAnswer}
 
 interval-some : (g : ℕ) → 0 < intervalOf g
 unfolding intervalOf
@@ -136,24 +136,24 @@ first-not first h e = let q = sym (facts-in (record { 0 = first }) h) ∙ e in c
 
 -- a span's answer and buffer, by the measure
 module _ (shows : ℕ → Numbered → Bool) (f : List ℕ) (first count : ℕ) where
-  pub span-is : (room : ℕ) {size : ℕ} {past : Bool} {r : ExportAnswer} → past ≡ pastLastBlock (exportDays shows f first count) → size ≡ length (exportFile shows f first count) → r ≡ sized room past size → r ≡ spanAnswer shows f first count room
+  pub span-is : (room : ℕ) {size : ℕ} {past : Bool} {r : CountAnswer} → past ≡ pastLastBlock (exportDays shows f first count) → size ≡ length (exportFile shows f first count) → r ≡ sized room past size → r ≡ spanAnswer shows f first count room
   unfolding spanAnswer
   span-is room p s e = e ∙ rw (p, s)
 
-  pub span-left : (out : List ℕ) {left : List ℕ} {r : ExportAnswer} → r ≡ spanAnswer shows f first count (length out) → left ≡ leavesFile (exportFile shows f first count) out r → left ≡ spanLeaves shows f first count out
+  pub span-left : (out : List ℕ) {left : List ℕ} {r : CountAnswer} → r ≡ spanAnswer shows f first count (length out) → left ≡ leavesFile (exportFile shows f first count) out r → left ≡ spanLeaves shows f first count out
   unfolding spanLeaves
   span-left out e l = l ∙ ap (leavesFile (exportFile shows f first count) out) e
 
-  pub left-span : (out : List ℕ) {left : List ℕ} {r : ExportAnswer} → r ≡ spanAnswer shows f first count (length out) → left ≡ spanLeaves shows f first count out → left ≡ leavesFile (exportFile shows f first count) out r
+  pub left-span : (out : List ℕ) {left : List ℕ} {r : CountAnswer} → r ≡ spanAnswer shows f first count (length out) → left ≡ spanLeaves shows f first count out → left ≡ leavesFile (exportFile shows f first count) out r
   unfolding spanLeaves
   left-span out e l = l ∙ ap (leavesFile (exportFile shows f first count) out) (sym e)
 
 -- the answer and the buffer, once the book's own answer is known
 module _ (shows : ℕ → Numbered → Bool) (f : List ℕ) (first count : ℕ) (out : List ℕ) where
-  pub answer-is : {a : BookAnswer} {r : ExportAnswer} → bookOf f ≡ a → r ≡ exportFrom shows f first count (length out) a → r ≡ exportAnswer shows f first count (length out)
+  pub answer-is : {a : BookAnswer} {r : CountAnswer} → bookOf f ≡ a → r ≡ exportFrom shows f first count (length out) a → r ≡ exportAnswer shows f first count (length out)
   unfolding exportAnswer
   answer-is q e = e ∙ ap (exportFrom shows f first count (length out)) (sym q)
 
-  pub left-is : {r : ExportAnswer} {left : List ℕ} → r ≡ exportAnswer shows f first count (length out) → left ≡ leavesFile (exportFile shows f first count) out r → left ≡ exportLeaves shows f first count out
+  pub left-is : {r : CountAnswer} {left : List ℕ} → r ≡ exportAnswer shows f first count (length out) → left ≡ leavesFile (exportFile shows f first count) out r → left ≡ exportLeaves shows f first count out
   unfolding exportLeaves
   left-is e l = l ∙ ap (leavesFile (exportFile shows f first count) out) e

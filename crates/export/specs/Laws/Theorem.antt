@@ -15,7 +15,7 @@ use Rattle.falls.specs.declared.types.ShortMonth.{ShortMonth}
 use Rattle.pages.specs.Pages.{Numbered, recordTimes, startOf, pageOf, pageOn}
 use Rattle.calendar.specs.File.{Appointment, Day, firstUnit}
 use Rattle.calendar.specs.Shown.{appointmentsOn}
-use Rattle.calendar.specs.declared.types.CalendarAnswer.{CalendarAnswer}
+use Rattle.prelude.specs.declared.answers.CountAnswer.{CountAnswer}
 use Rattle.calendar.specs.declared.types.CalendarSettings.{CalendarSettings}
 use Rattle.calendar_writer.specs.DayLists.{daysWith, pastLastBlock}
 use Rattle.calendar_writer.specs.Laws.TableRead.{GoodDays}
@@ -27,7 +27,6 @@ use Rattle.export.specs.Laws.Records.{good-book}
 use Rattle.export.specs.Laws.Appointments.{flag-alarm, good-size}
 use Rattle.export.specs.Laws.Sizes.{days-size, days-late, days-near}
 use Rattle.export.specs.Laws.Answers.{Span, facts-span, span-past, span-short, span-fits, answer-span, Success, export-success, left-file}
-use Rattle.export.specs.declared.answers.ExportAnswer.{ExportAnswer}
 
 module _ (shows : ℕ → Numbered → Bool) (f : List ℕ) (first count : ℕ) where
   abbrev list : ℕ → List Appointment
@@ -55,7 +54,7 @@ module _ (shows : ℕ → Numbered → Bool) (f : List ℕ) (first count : ℕ) 
       let few : length ds < 65536 = omega (arith, days-few list count first) in
       let good : GoodDays 0 (firstUnit (length ds)) ds = days-good list (good-size f (intervalOf (settingsOf f .granularity)) (good-book f e) shows) count first 0 (firstUnit (length ds)) (omega arith) (span .end) past in
       record {
-        accepted = file-accepted s ds few good ∙ ap CalendarAnswer.Accepted (sym (file-counted s ds few));
+        accepted = file-accepted s ds few good ∙ ap CountAnswer.Count (sym (file-counted s ds few));
         inside = λ d l h. ap (map shown) (file-shows s ds few good d ∙ days-on list count first d l h) ∙ page-said d;
         before = λ d l. file-shows s ds few good d ∙ days-other list count first d (λ m h. omega arith);
         after = λ d l. file-shows s ds few good d ∙ days-other list count first d (λ m h. omega arith);
@@ -80,7 +79,7 @@ module _ (shows : ℕ → Numbered → Bool) (f : List ℕ) (first count : ℕ) 
       record {
         thirteen = λ k s. q ∙ span-past shows f first count room (export-late s);
         twelve = λ none l. q ∙ span-short shows f first count (export-near none) (omega (arith, export-size));
-        written = λ none l. q ∙ span-fits shows f first count (export-near none) (omega (arith, export-size)) ∙ ap ExportAnswer.Written export-size;
+        written = λ none l. q ∙ span-fits shows f first count (export-near none) (omega (arith, export-size)) ∙ ap CountAnswer.Count export-size;
       }
 
   -- The theorem: for any bytes as a book, any first day and count, any buffer.
@@ -95,12 +94,12 @@ module _ (shows : ℕ → Numbered → Bool) (f : List ℕ) (first count : ℕ) 
       }
 
   -- the same of an export as a contract describes it
-  pub demand-3-promised : (out : List ℕ) {answer : ExportAnswer} {left : List ℕ} → answer ≡ exportAnswer shows f first count (length out) → left ≡ exportLeaves shows f first count out → Demand3 shows f first count out answer left
+  pub demand-3-promised : (out : List ℕ) {answer : CountAnswer} {left : List ℕ} → answer ≡ exportAnswer shows f first count (length out) → left ≡ exportLeaves shows f first count out → Demand3 shows f first count out answer left
   demand-3-promised out a l = rw (a, l) (demand3 out)
 
 -- Document 01's demand: what is written shows on each day of the span what that day's page lists, under either short-month choice.
 pub each-day :
-    (c : ShortMonth) (book : List ℕ) (first count : ℕ) (out : List ℕ) (n : ℕ) → exportAnswer (showsUnder c) book first count (length out) ≡ ExportAnswer.Written n
+    (c : ShortMonth) (book : List ℕ) (first count : ℕ) (out : List ℕ) (n : ℕ) → exportAnswer (showsUnder c) book first count (length out) ≡ CountAnswer.Count n
     → (d : ℕ) → first ≤ d → d < first + count
     → map shown (appointmentsOn (take n (exportLeaves (showsUnder c) book first count out)) d) ≡ map (listed book) (pageOn c (factsOf d) book)
 each-day c book first count out n h = demand3 (showsUnder c) book first count out .same n h .inside

@@ -6,7 +6,7 @@ use mathlib.Core.List.{List}
 use lib.ListN.{length}
 use Rattle.texts.specs.Notes.{linesOf}
 use Rattle.book.specs.Lines.{linesIn, linesAnswer}
-use Rattle.book.specs.declared.types.LinesAnswer.{LinesAnswer}
+use Rattle.prelude.specs.declared.answers.CountAnswer.{CountAnswer}
 use borrow.Author.Needs.{needs}
 use Rattle.book.proofs.lines.note_lines.Statement.{statement}
 use Rattle.book.proofs.lines.note_lines.Tie as tie
@@ -28,7 +28,7 @@ enum-known-a-2 c = search needs
 
 returns : tie.Need-returns
 unfolding linesAnswer linesIn
-returns c = ap LinesAnswer.Lines (c .line-count .ensures ∙ ap (λ (n : List ℕ). length (linesOf n)) (c .before .part .ensures)) ∙ ap (linesIn _) (sym (sym (c .before .before .before .before .before .note-of .ensures) ∙ c .before .before .before .a .given .1))
+returns c = ap CountAnswer.Count (c .line-count .ensures ∙ ap (λ (n : List ℕ). length (linesOf n)) (c .before .part .ensures)) ∙ ap (linesIn _) (sym (sym (c .before .before .before .before .before .note-of .ensures) ∙ c .before .before .before .a .given .1))
 
 returns-2 : tie.Need-returns-2
 unfolding linesAnswer linesIn

@@ -7,12 +7,12 @@ use Rattle.cabi.proofs.calendar_calls.apptbook_calendar_appointments.Ti
 appointment-count-requires : tie.Need-appointment-count-requires
 appointment-count-requires c κs = search needs
 
-appointments-out-requires : tie.Need-appointments-out-requires
-appointments-out-requires c κs = search needs
+count-out-requires : tie.Need-count-out-requires
+count-out-requires c κs = search needs
 
 returns : tie.Need-returns
 returns c = cc
 
 pub apptbook-calendar-appointments-spec : {M : Type 1} → statement M
 apptbook-calendar-appointments-spec =
-    tie.close (tie.spec appointment-count-requires appointments-out-requires returns)
+    tie.close (tie.spec appointment-count-requires count-out-requires returns)

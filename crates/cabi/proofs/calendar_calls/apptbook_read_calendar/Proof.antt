@@ -7,11 +7,11 @@ use Rattle.cabi.proofs.calendar_calls.apptbook_read_calendar.Tie as tie
 read-calendar-requires : tie.Need-read-calendar-requires
 read-calendar-requires c κs = search needs
 
-days-out-requires : tie.Need-days-out-requires
-days-out-requires c κs = search needs
+count-out-requires : tie.Need-count-out-requires
+count-out-requires c κs = search needs
 
 returns : tie.Need-returns
 returns c = cc
 
 pub apptbook-read-calendar-spec : {M : Type 1} → statement M
-apptbook-read-calendar-spec = tie.close (tie.spec read-calendar-requires days-out-requires returns)
+apptbook-read-calendar-spec = tie.close (tie.spec read-calendar-requires count-out-requires returns)

@@ -1,7 +1,7 @@
 -- `apptbook_export` meets its contract: what the layer below gives and leaves, as it crosses.
 -- Assumes nothing.
 use mathlib.Core.Path.{ap, _∙_}
-use Rattle.marshal.specs.CalendarAnswers.{exportOut}
+use Rattle.marshal.specs.CountAnswers.{countOut}
 use borrow.Author.Needs.{needs}
 use Rattle.cabi.proofs.export_calls.apptbook_export.Statement.{statement}
 use Rattle.cabi.proofs.export_calls.apptbook_export.Tie as tie
@@ -12,8 +12,8 @@ choice-of-requires c κs = search needs
 export-requires : tie.Need-export-requires
 export-requires c κs = search needs
 
-export-out-requires : tie.Need-export-out-requires
-export-out-requires c κs = search needs
+count-out-requires : tie.Need-count-out-requires
+count-out-requires c κs = search needs
 
 same-length : tie.Need-same-length
 same-length c = search needs
@@ -22,9 +22,9 @@ returns : tie.Need-returns
 returns c =
     let e = c .before .before .before in
     let h = e .before .before .choice-of .ensures in
-    (rw (← h) (c .export-out .ensures ∙ ap exportOut (e .export .ensures .0)), rw (← h) (e .export .ensures .1 .0))
+    (rw (← h) (c .count-out .ensures ∙ ap countOut (e .export .ensures .0)), rw (← h) (e .export .ensures .1 .0))
 
 pub apptbook-export-spec : {M : Type 1} → statement M
 apptbook-export-spec =
     tie.close
-    (tie.spec choice-of-requires export-requires export-out-requires same-length returns)
+    (tie.spec choice-of-requires export-requires count-out-requires same-length returns)

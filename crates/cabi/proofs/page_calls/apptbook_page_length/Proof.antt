@@ -1,7 +1,7 @@
 -- `apptbook_page_length` meets its contract: what the layer below gives, as it crosses.
 -- Assumes nothing.
 use mathlib.Core.Path.{ap, _∙_}
-use Rattle.marshal.specs.PageAnswers.{countOut}
+use Rattle.marshal.specs.CountAnswers.{countOut}
 use borrow.Author.Needs.{needs}
 use Rattle.cabi.proofs.page_calls.apptbook_page_length.Statement.{statement}
 use Rattle.cabi.proofs.page_calls.apptbook_page_length.Tie as tie

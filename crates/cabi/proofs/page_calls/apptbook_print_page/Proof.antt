@@ -1,7 +1,7 @@
 -- `apptbook_print_page` meets its contract: what the layer below gives and leaves, as it crosses.
 -- Assumes nothing.
 use mathlib.Core.Path.{ap, _∙_}
-use Rattle.marshal.specs.PageAnswers.{countOut}
+use Rattle.marshal.specs.CountAnswers.{countOut}
 use borrow.Author.Needs.{needs}
 use Rattle.cabi.proofs.page_calls.apptbook_print_page.Statement.{statement}
 use Rattle.cabi.proofs.page_calls.apptbook_print_page.Tie as tie

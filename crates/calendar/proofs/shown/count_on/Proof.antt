@@ -7,7 +7,7 @@ use lib.ListN.{length}
 use Rattle.prelude.specs.Laws.Choice.{lt-yes, lt-no}
 use native.Mathlib.Omega.{arith}
 use Rattle.calendar.specs.Shown.{countFrom}
-use Rattle.calendar.specs.declared.types.CountAnswer.{CountAnswer}
+use Rattle.prelude.specs.declared.answers.CountAnswer.{CountAnswer}
 use native.Mathlib.Omega.{arith}
 use borrow.Author.Needs.{needs}
 use Rattle.calendar.proofs.shown.count_on.Statement.{statement}

@@ -3,7 +3,7 @@
 use mathlib.Core.Path.{sym, _∙_, ap}
 use Rattle.pages.specs.Answers.{pageCountIn}
 use Rattle.pages.specs.Laws.Pages.{validated-ready}
-use Rattle.pages.specs.declared.types.CountAnswer.{CountAnswer}
+use Rattle.prelude.specs.declared.answers.CountAnswer.{CountAnswer}
 use borrow.Author.Needs.{needs}
 use Rattle.pages.proofs.lines.page_lines.Statement.{statement}
 use Rattle.pages.proofs.lines.page_lines.Tie as tie

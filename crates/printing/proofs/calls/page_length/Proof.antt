@@ -3,7 +3,7 @@
 use mathlib.Core.Path.{sym, _∙_, ap}
 use borrow.Author.Needs.{needs}
 use Rattle.pages.specs.Laws.Pages.{validated-ready}
-use Rattle.pages.specs.declared.types.CountAnswer.{CountAnswer}
+use Rattle.prelude.specs.declared.answers.CountAnswer.{CountAnswer}
 use Rattle.printing.specs.Answers.{pageLengthIn}
 use Rattle.printing.proofs.calls.page_length.Statement.{statement}
 use Rattle.printing.proofs.calls.page_length.Tie as tie

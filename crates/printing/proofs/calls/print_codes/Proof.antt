@@ -4,7 +4,7 @@ use mathlib.Core.Path.{refl, _∙_, ap}
 use native.Mathlib.Omega.{arith}
 use native.Mathlib.Nat.{zero-add}
 use Rattle.prelude.specs.Laws.Choice.{lt-yes, lt-no}
-use Rattle.pages.specs.declared.types.CountAnswer.{CountAnswer}
+use Rattle.prelude.specs.declared.answers.CountAnswer.{CountAnswer}
 use borrow.Author.Needs.{needs}
 use Rattle.printing.proofs.calls.print_codes.Statement.{statement}
 use Rattle.printing.proofs.calls.print_codes.Tie as tie

@@ -1,9 +1,9 @@
 -- `count_out` meets its contract: each arm is a clause of its definition.
 -- Assumes nothing.
-use Rattle.marshal.specs.PageAnswers.{countOut}
+use Rattle.marshal.specs.CountAnswers.{countOut}
 use borrow.Author.Needs.{needs}
-use Rattle.marshal.proofs.page_answers.count_out.Statement.{statement}
-use Rattle.marshal.proofs.page_answers.count_out.Tie as tie
+use Rattle.marshal.proofs.count_answers.count_out.Statement.{statement}
+use Rattle.marshal.proofs.count_answers.count_out.Tie as tie
 
 enum-known-a : tie.Need-enum-known-a
 enum-known-a c = search needs
