@@ -15,8 +15,7 @@ use crate::types::Entry;
 use crate::types::RecordAnswer;
 use crate::types::Texts;
 use prelude::numbers::wide_size;
-use prelude::refusals::NO_SUCH_NUMBER;
-use prelude::refusals::Refusal;
+use prelude::refused::NO_SUCH_NUMBER;
 use prelude::slices::Stretch;
 use prelude::slices::part;
 use prelude::slices::word;
@@ -125,10 +124,7 @@ fn record_in(file: &[u8], k: usize, b: Book) -> RecordAnswer
         let at = place_of(file, k);
         return RecordAnswer::Record(entry_at(file, at));
     }
-    RecordAnswer::Refused(Refusal {
-        number: NO_SUCH_NUMBER,
-        place: 0,
-    })
+    RecordAnswer::Refused(NO_SUCH_NUMBER)
 }
 
 // The record at a number: every field, its place, its stretches.

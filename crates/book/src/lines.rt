@@ -12,8 +12,7 @@ use crate::types::Book;
 use crate::types::BookAnswer;
 use crate::types::StretchAnswer;
 use prelude::answers::CountAnswer;
-use prelude::refusals::NO_SUCH_NUMBER;
-use prelude::refusals::Refusal;
+use prelude::refused::NO_SUCH_NUMBER;
 use prelude::slices::Stretch;
 use prelude::slices::part;
 use texts::lines::line_at;
@@ -29,10 +28,7 @@ fn note_in(file: &[u8], k: usize, b: Book) -> StretchAnswer
         let note = texts.note;
         return StretchAnswer::Stretch(note);
     }
-    StretchAnswer::Refused(Refusal {
-        number: NO_SUCH_NUMBER,
-        place: 0,
-    })
+    StretchAnswer::Refused(NO_SUCH_NUMBER)
 }
 
 // The note of a record, as a stretch of the file.
@@ -70,10 +66,7 @@ fn line_in(file: &[u8], j: usize, s: Stretch) -> StretchAnswer
             length: line.length,
         });
     }
-    StretchAnswer::Refused(Refusal {
-        number: NO_SUCH_NUMBER,
-        place: 0,
-    })
+    StretchAnswer::Refused(NO_SUCH_NUMBER)
 }
 
 // Line j of the note of a record.

@@ -17,10 +17,10 @@ use crate::types::MOST_BOOK_BYTES;
 use crate::types::Settings;
 use crate::types::StepAnswer;
 use prelude::refusals::BAD_SETTINGS;
-use prelude::refusals::BOOK_TOO_LONG;
-use prelude::refusals::NOT_A_BOOK;
 use prelude::refusals::Refusal;
 use prelude::refusals::Verdict;
+use prelude::refused::BOOK_TOO_LONG;
+use prelude::refused::NOT_A_BOOK;
 
 fn accepted_with(settings: Settings, records: usize, v: Verdict) -> BookAnswer
     ensures { λ r. ⌜ r ≡ accepted settings records v ⌝ }
@@ -59,10 +59,7 @@ pub fn read_book(file: &[u8]) -> BookAnswer
     ensures { λ r. ⌜ r ≡ bookOf (now (file .entry)) ⌝ }
 {
     if MOST_BOOK_BYTES < file.len() {
-        return BookAnswer::Refused(Refusal {
-            number: BOOK_TOO_LONG,
-            place: 0,
-        });
+        return BookAnswer::Refused(BOOK_TOO_LONG);
     }
     if is_identified(file) {
         if settings_ok(file) {
@@ -73,8 +70,5 @@ pub fn read_book(file: &[u8]) -> BookAnswer
             place: 5,
         });
     }
-    BookAnswer::Refused(Refusal {
-        number: NOT_A_BOOK,
-        place: 0,
-    })
+    BookAnswer::Refused(NOT_A_BOOK)
 }

@@ -9,8 +9,7 @@ use crate::types::AppointmentAnswer;
 use crate::types::StoredAppointment;
 use days::types::Minute;
 use prelude::numbers::wide;
-use prelude::refusals::NO_SUCH_NUMBER;
-use prelude::refusals::Refusal;
+use prelude::refused::NO_SUCH_NUMBER;
 use prelude::slices::Stretch;
 use prelude::slices::word_in;
 
@@ -60,8 +59,5 @@ pub fn appointment_in(file: &[u8], from: usize, end: usize, k: usize) -> Appoint
         at += size_at(file, at);
         i += 1;
     }
-    AppointmentAnswer::Refused(Refusal {
-        number: NO_SUCH_NUMBER,
-        place: 0,
-    })
+    AppointmentAnswer::Refused(NO_SUCH_NUMBER)
 }

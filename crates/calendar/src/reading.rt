@@ -13,10 +13,10 @@ use crate::types::LAST_BLOCK;
 use prelude::answers::CountAnswer;
 use prelude::refusals::BAD_BLOCK;
 use prelude::refusals::BAD_TABLE;
-use prelude::refusals::CALENDAR_TOO_LONG;
-use prelude::refusals::NOT_A_CALENDAR;
 use prelude::refusals::Refusal;
 use prelude::refusals::Verdict;
+use prelude::refused::CALENDAR_TOO_LONG;
+use prelude::refused::NOT_A_CALENDAR;
 use prelude::slices::word_in;
 
 // Whether the block of the descriptor at p lies behind the table and in the file, and is that day's.
@@ -113,10 +113,7 @@ pub fn read_calendar(file: &[u8]) -> CountAnswer
     ensures { λ r. ⌜ r ≡ calendarOf (now (file .entry)) ⌝ }
 {
     if 2228224 < file.len() {
-        return CountAnswer::Refused(Refusal {
-            number: CALENDAR_TOO_LONG,
-            place: 0,
-        });
+        return CountAnswer::Refused(CALENDAR_TOO_LONG);
     }
     if is_calendar(file) {
         let count = count_of(file);
@@ -128,8 +125,5 @@ pub fn read_calendar(file: &[u8]) -> CountAnswer
         }
         return answered_with(count, judge_all(file, count));
     }
-    CountAnswer::Refused(Refusal {
-        number: NOT_A_CALENDAR,
-        place: 0,
-    })
+    CountAnswer::Refused(NOT_A_CALENDAR)
 }

@@ -14,9 +14,8 @@ use crate::types::Span;
 use days::types::CalendarDay;
 use days::types::LAST_DAY;
 use prelude::answers::CountAnswer;
-use prelude::refusals::NO_SUCH_NUMBER;
-use prelude::refusals::OUT_OF_RANGE;
-use prelude::refusals::Refusal;
+use prelude::refused::NO_SUCH_NUMBER;
+use prelude::refused::OUT_OF_RANGE;
 use prelude::slices::part;
 use prelude::slices::word_in;
 
@@ -33,10 +32,7 @@ fn descriptor_in(file: &[u8], k: usize, n: usize) -> DescriptorAnswer
             offset,
         });
     }
-    DescriptorAnswer::Refused(Refusal {
-        number: NO_SUCH_NUMBER,
-        place: 0,
-    })
+    DescriptorAnswer::Refused(NO_SUCH_NUMBER)
 }
 
 // The day and the block offset at a place of the table, as stored.
@@ -72,10 +68,7 @@ fn count_on(file: &[u8], day: CalendarDay, n: usize) -> CountAnswer
     ensures { λ r. ⌜ r ≡ countFrom (now (file .entry)) (day .0) (CountAnswer.Count n) ⌝ }
 {
     if LAST_DAY < day.0 {
-        return CountAnswer::Refused(Refusal {
-            number: OUT_OF_RANGE,
-            place: 0,
-        });
+        return CountAnswer::Refused(OUT_OF_RANGE);
     }
     let span = span_on(file, day.0, n);
     CountAnswer::Count(count_list(file, span.from, span.end))
@@ -97,10 +90,7 @@ fn appointment_on(file: &[u8], day: CalendarDay, k: usize, n: usize) -> Appointm
     ensures { λ r. ⌜ r ≡ appointmentFrom (now (file .entry)) (day .0) k (CountAnswer.Count n) ⌝ }
 {
     if LAST_DAY < day.0 {
-        return AppointmentAnswer::Refused(Refusal {
-            number: OUT_OF_RANGE,
-            place: 0,
-        });
+        return AppointmentAnswer::Refused(OUT_OF_RANGE);
     }
     let span = span_on(file, day.0, n);
     appointment_in(file, span.from, span.end, k)

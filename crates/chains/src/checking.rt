@@ -11,10 +11,10 @@ use crate::table::MOST_RECORDS;
 use crate::table::entry_count;
 use crate::table::judge_entries;
 use prelude::answers::CountAnswer;
-use prelude::refusals::BAD_ARRAYS;
 use prelude::refusals::BAD_DAY_TABLE;
 use prelude::refusals::Refusal;
 use prelude::refusals::Verdict;
+use prelude::refused::BAD_ARRAYS;
 
 // Whether the arrays are equally long, at most 4,096.
 fn sizes_ok(previous: usize, next: usize, kinds: usize, minutes: usize) -> bool
@@ -85,10 +85,7 @@ fn judge(
         }
         return judge_all(table, count, previous, next, kinds, minutes);
     }
-    Verdict::Refused(Refusal {
-        number: BAD_ARRAYS,
-        place: 0,
-    })
+    Verdict::Refused(BAD_ARRAYS)
 }
 
 // The number of days, or the refusal.

@@ -15,8 +15,8 @@ use digits::puts::put_decimal;
 use export::calls::export;
 use falls::types::ShortMonth;
 use prelude::answers::CountAnswer;
-use prelude::refusals::OUT_OF_RANGE;
 use prelude::refusals::Refusal;
+use prelude::refused::OUT_OF_RANGE;
 use printing::calls::print_page;
 
 // A refusal's text: ten digits, a space, twenty digits and 0Ah at most.
@@ -40,13 +40,7 @@ fn other_response(file: &[u8], out: &mut [u8]) -> usize
 {
     let a = read_book(file);
     match a {
-        BookAnswer::Accepted(_) => put_refusal(
-            out,
-            Refusal {
-                number: OUT_OF_RANGE,
-                place: 0,
-            },
-        ),
+        BookAnswer::Accepted(_) => put_refusal(out, OUT_OF_RANGE),
         BookAnswer::Refused(e) => put_refusal(out, e),
     }
 }

@@ -4,8 +4,7 @@ ghost use Rattle.days.specs.Dates.{leap, monthLength, real, before as be
 ghost use Rattle.days.specs.Answers.{lengthAnswer};
 use crate::answers::LengthAnswer;
 use crate::types::Date;
-use prelude::refusals::OUT_OF_RANGE;
-use prelude::refusals::Refusal;
+use prelude::refused::OUT_OF_RANGE;
 
 fn is_leap(year: u16) -> bool
     ensures { λ r. ⌜ r ≡ leap year ⌝ }
@@ -58,28 +57,16 @@ pub fn month_length(year: u16, month: u16) -> LengthAnswer
     ensures { λ r. ⌜ r ≡ lengthAnswer year month ⌝ }
 {
     if year < 1980 {
-        return LengthAnswer::Refused(Refusal {
-            number: OUT_OF_RANGE,
-            place: 0,
-        });
+        return LengthAnswer::Refused(OUT_OF_RANGE);
     }
     if 2099 < year {
-        return LengthAnswer::Refused(Refusal {
-            number: OUT_OF_RANGE,
-            place: 0,
-        });
+        return LengthAnswer::Refused(OUT_OF_RANGE);
     }
     if month < 1 {
-        return LengthAnswer::Refused(Refusal {
-            number: OUT_OF_RANGE,
-            place: 0,
-        });
+        return LengthAnswer::Refused(OUT_OF_RANGE);
     }
     if 12 < month {
-        return LengthAnswer::Refused(Refusal {
-            number: OUT_OF_RANGE,
-            place: 0,
-        });
+        return LengthAnswer::Refused(OUT_OF_RANGE);
     }
     LengthAnswer::Length(month_days(year, month))
 }

@@ -12,18 +12,14 @@ use crate::types::CalendarDay;
 use crate::types::Date;
 use crate::types::DayFacts;
 use crate::types::LAST_DAY;
-use prelude::refusals::OUT_OF_RANGE;
-use prelude::refusals::Refusal;
+use prelude::refused::OUT_OF_RANGE;
 
 // The facts of a Calendar day.
 pub fn facts_of_day(n: CalendarDay) -> FactsAnswer
     ensures { λ r. ⌜ r ≡ factsAnswer n ⌝ }
 {
     if LAST_DAY < n.0 {
-        return FactsAnswer::Refused(Refusal {
-            number: OUT_OF_RANGE,
-            place: 0,
-        });
+        return FactsAnswer::Refused(OUT_OF_RANGE);
     }
     let date = date_of(n);
     let length = month_days(date.year, date.month);
@@ -103,15 +99,9 @@ pub fn next_day(f: DayFacts) -> FactsAnswer
 {
     if f.day.0 < LAST_DAY {
         if 2099 < f.date.year {
-            return FactsAnswer::Refused(Refusal {
-                number: OUT_OF_RANGE,
-                place: 0,
-            });
+            return FactsAnswer::Refused(OUT_OF_RANGE);
         }
         return FactsAnswer::Facts(step(f));
     }
-    FactsAnswer::Refused(Refusal {
-        number: OUT_OF_RANGE,
-        place: 0,
-    })
+    FactsAnswer::Refused(OUT_OF_RANGE)
 }

@@ -12,8 +12,7 @@ use crate::search::month_of;
 use crate::types::CalendarDay;
 use crate::types::Date;
 use crate::types::LAST_DAY;
-use prelude::refusals::OUT_OF_RANGE;
-use prelude::refusals::Refusal;
+use prelude::refused::OUT_OF_RANGE;
 
 // The days from 1 March 1976 to the first of a month, 3 = March to 14 = February. So counted each fourth year is a leap year up to 2099, and its leap day is its last.
 fn days_from_march(years: u16, month: u16) -> u16
@@ -43,10 +42,7 @@ pub fn day_of_date(d: Date) -> DayAnswer
     if is_real(d) {
         return DayAnswer::Day(CalendarDay(day_of(d)));
     }
-    DayAnswer::Refused(Refusal {
-        number: OUT_OF_RANGE,
-        place: 0,
-    })
+    DayAnswer::Refused(OUT_OF_RANGE)
 }
 
 // The date of a day in range: its month by the table, and the days from the month's start.
@@ -68,10 +64,7 @@ pub fn date_of_day(n: CalendarDay) -> DateAnswer
     ensures { λ r. ⌜ r ≡ dateAnswer n ⌝ }
 {
     if LAST_DAY < n.0 {
-        return DateAnswer::Refused(Refusal {
-            number: OUT_OF_RANGE,
-            place: 0,
-        });
+        return DateAnswer::Refused(OUT_OF_RANGE);
     }
     DateAnswer::Date(date_of(n))
 }
@@ -89,10 +82,7 @@ pub fn weekday_of_day(n: CalendarDay) -> WeekdayAnswer
     ensures { λ r. ⌜ r ≡ weekdayAnswer n ⌝ }
 {
     if LAST_DAY < n.0 {
-        return WeekdayAnswer::Refused(Refusal {
-            number: OUT_OF_RANGE,
-            place: 0,
-        });
+        return WeekdayAnswer::Refused(OUT_OF_RANGE);
     }
     WeekdayAnswer::Weekday(weekday_of(n))
 }

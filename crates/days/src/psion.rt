@@ -5,8 +5,7 @@ use crate::answers::DayAnswer;
 use crate::answers::PsionAnswer;
 use crate::types::CalendarDay;
 use crate::types::PsionDay;
-use prelude::refusals::OUT_OF_RANGE;
-use prelude::refusals::Refusal;
+use prelude::refused::OUT_OF_RANGE;
 
 pub fn calendar_of_psion(p: PsionDay) -> DayAnswer
     ensures { λ r. ⌜ r ≡ calendarOfPsion p ⌝ }
@@ -16,20 +15,14 @@ pub fn calendar_of_psion(p: PsionDay) -> DayAnswer
             return DayAnswer::Day(CalendarDay(p.0 - 3652));
         }
     }
-    DayAnswer::Refused(Refusal {
-        number: OUT_OF_RANGE,
-        place: 0,
-    })
+    DayAnswer::Refused(OUT_OF_RANGE)
 }
 
 pub fn psion_of_calendar(n: CalendarDay) -> PsionAnswer
     ensures { λ r. ⌜ r ≡ psionOfCalendar n ⌝ }
 {
     if 25567 < n.0 {
-        return PsionAnswer::Refused(Refusal {
-            number: OUT_OF_RANGE,
-            place: 0,
-        });
+        return PsionAnswer::Refused(OUT_OF_RANGE);
     }
     PsionAnswer::Day(PsionDay(n.0 + 3652))
 }

@@ -4,7 +4,6 @@ ghost use lib.ListN.{length};
 ghost use Rattle.book.specs.Books.{bookOf};
 ghost use Rattle.export.specs.Export.{exportFile, exportFrom, exportAnswer, leavesFile, exportLeaves, showsUnder};
 ghost use Rattle.export.specs.Demand.{Demand3};
-use crate::deciding::refused;
 use crate::deciding::span_ok;
 use crate::requests::Request;
 use crate::working::export_span;
@@ -16,7 +15,7 @@ use days::facts::facts_of_day;
 use days::types::CalendarDay;
 use falls::types::ShortMonth;
 use prelude::answers::CountAnswer;
-use prelude::refusals::OUT_OF_RANGE;
+use prelude::refused::OUT_OF_RANGE;
 
 fn export_in(
     file: &[u8],
@@ -46,7 +45,7 @@ fn export_in(
             FactsAnswer::Refused(e) => CountAnswer::Refused(e),
         }
     } else {
-        refused(OUT_OF_RANGE)
+        CountAnswer::Refused(OUT_OF_RANGE)
     }
 }
 

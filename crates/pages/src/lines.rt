@@ -16,8 +16,7 @@ use book::types::MOST_RECORDS;
 use days::types::CalendarDay;
 use falls::types::ShortMonth;
 use prelude::answers::CountAnswer;
-use prelude::refusals::NO_SUCH_NUMBER;
-use prelude::refusals::Refusal;
+use prelude::refused::NO_SUCH_NUMBER;
 use prelude::slices::part;
 
 // The number of lines of a day's page.
@@ -49,10 +48,7 @@ fn line_with(
     if k < n {
         return LineAnswer::Line(line_of(file, codes[k]));
     }
-    LineAnswer::Refused(Refusal {
-        number: NO_SUCH_NUMBER,
-        place: 0,
-    })
+    LineAnswer::Refused(NO_SUCH_NUMBER)
 }
 
 // A book of few records needs little working space.

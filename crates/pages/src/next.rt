@@ -23,8 +23,7 @@ use days::types::DayFacts;
 use falls::types::ShortMonth;
 use occurrences::finding::next_shown;
 use occurrences::types::Rule;
-use prelude::refusals::NO_SUCH_NUMBER;
-use prelude::refusals::Refusal;
+use prelude::refused::NO_SUCH_NUMBER;
 
 fn falls_in(file: &[u8], c: ShortMonth, k: usize, a: Ready) -> FallsAnswer
     requires { ⌜ ReadyBook (now file) a ⌝ }
@@ -35,10 +34,7 @@ fn falls_in(file: &[u8], c: ShortMonth, k: usize, a: Ready) -> FallsAnswer
         let f = a.facts;
         return FallsAnswer::Falls(falls_there(file, at, c, f));
     }
-    FallsAnswer::Refused(Refusal {
-        number: NO_SUCH_NUMBER,
-        place: 0,
-    })
+    FallsAnswer::Refused(NO_SUCH_NUMBER)
 }
 
 // Whether the record of a number falls on a day.
@@ -77,10 +73,7 @@ fn next_in(file: &[u8], c: ShortMonth, k: usize, a: Ready) -> NextAnswer
         let f = a.facts;
         return search_on(c, rule_at(file, at), f);
     }
-    NextAnswer::Refused(Refusal {
-        number: NO_SUCH_NUMBER,
-        place: 0,
-    })
+    NextAnswer::Refused(NO_SUCH_NUMBER)
 }
 
 // The next occurrence of the record of a number, from a day on.

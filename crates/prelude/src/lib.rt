@@ -2,4 +2,5 @@
 pub mod answers;
 pub mod numbers;
 pub mod refusals;
+pub mod refused;
 pub mod slices;

@@ -21,8 +21,7 @@ use pages::types::Ready;
 use pages::types::Validated;
 use pages::validating::validate;
 use prelude::answers::CountAnswer;
-use prelude::refusals::NO_ROOM;
-use prelude::refusals::Refusal;
+use prelude::refused::NO_ROOM;
 
 // How many bytes the printed page of a day has.
 pub fn page_length(file: &[u8], n: CalendarDay, c: ShortMonth) -> CountAnswer
@@ -51,10 +50,7 @@ fn print_codes(file: &[u8], f: DayFacts, codes: &[u64], out: &mut [u8]) -> Count
     ensures leaves { λ _. ⌜ now (out .exit) ≡ textLeaves (now (out .entry)) (codedText (now (file .entry)) f (now (codes .entry))) ⌝ }
 {
     if out.len() < coded_size(file, f, codes) {
-        return CountAnswer::Refused(Refusal {
-            number: NO_ROOM,
-            place: 0,
-        });
+        return CountAnswer::Refused(NO_ROOM);
     }
     CountAnswer::Count(put_page(file, f, codes, out))
 }

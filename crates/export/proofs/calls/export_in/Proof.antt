@@ -1,7 +1,7 @@
 -- `export_in` meets its contract: the span decides, and a span in range has its first day's facts.
 -- Assumes nothing.
 use Prim.Native.Nat.{ℕ}
-use mathlib.Core.Path.{_≡_, sym, ap, _∙_}
+use mathlib.Core.Path.{_≡_, refl, sym, ap, _∙_}
 use mathlib.Core.Bool.{true}
 use native.Mathlib.Omega.{arith}
 use lib.ListN.{length}
@@ -41,9 +41,6 @@ export-span-requires c κs =
 enum-known-a-2 : tie.Need-enum-known-a-2
 enum-known-a-2 c = search needs
 
-refused-requires : tie.Need-refused-requires
-refused-requires c κs = search needs
-
 same-length : tie.Need-same-length
 same-length c = search needs
 
@@ -72,9 +69,7 @@ returns-2 c =
 
 returns-3 : tie.Need-returns-3
 unfolding exportFrom leavesFile
-returns-3 c =
-    let e = c .before in
-    (c .refused .ensures ∙ sym (is-false (sym (e .before .span-ok .ensures) ∙ e .if1 .left) _ _), rw (c .refused .ensures))
+returns-3 c = (sym (is-false (sym (c .before .span-ok .ensures) ∙ c .if1 .left) _ _), refl)
 
 pub export-in-spec : {M : Type 1} → statement M
 export-in-spec =
@@ -85,7 +80,6 @@ export-in-spec =
     enum-known-a
     export-span-requires
     enum-known-a-2
-    refused-requires
     same-length
     returns
     returns-2

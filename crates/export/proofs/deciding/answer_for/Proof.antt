@@ -8,19 +8,13 @@ use borrow.Author.Needs.{needs}
 use Rattle.export.proofs.deciding.answer_for.Statement.{statement}
 use Rattle.export.proofs.deciding.answer_for.Tie as tie
 
-refused-requires : tie.Need-refused-requires
-refused-requires c κs = search needs
-
 returns : tie.Need-returns
 unfolding sized
-returns c = b-yes _ _ (c .before .if1 .taken) (c .refused .ensures)
-
-refused-requires-2 : tie.Need-refused-requires-2
-refused-requires-2 c κs = search needs
+returns c = b-yes _ _ (c .if1 .taken) refl
 
 returns-2 : tie.Need-returns-2
 unfolding sized
-returns-2 c = b-no _ _ (c .before .before .before .if1 .left) (lt-yes _ _ _ (omega arith) (c .refused2 .ensures))
+returns-2 c = b-no _ _ (c .before .before .if1 .left) (lt-yes _ _ _ (omega arith) refl)
 
 returns-3 : tie.Need-returns-3
 unfolding sized
@@ -28,4 +22,4 @@ returns-3 c = b-no _ _ (c .before .before .if1 .left) (lt-no _ _ _ (omega arith)
 
 pub answer-for-spec : {M : Type 1} → statement M
 answer-for-spec =
-    tie.close (tie.spec refused-requires returns refused-requires-2 returns-2 returns-3)
+    tie.close (tie.spec returns returns-2 returns-3)
