@@ -17,7 +17,7 @@ use Rattle.book.specs.Fillers.{endIn}
 use Rattle.book.specs.Books.{counted, entryAt}
 use Rattle.book.specs.Laws.Walk.{At, at-next, EndAt, record-step, end-step, walk-record, walk-end, walk-met}
 use Rattle.book.specs.Invariants.{RecordAt}
-use Rattle.book.specs.Laws.Books.{refused-not}
+use Rattle.book.specs.Laws.Books.{refused-not-accepted}
 use Rattle.book.specs.Laws.Fillers.{Ended, walk-ended}
 use Rattle.book.specs.declared.types.Book.{Book}
 use Rattle.book.specs.declared.types.BookAnswer.{BookAnswer}
@@ -102,4 +102,4 @@ module _ (m : ℕ) (f g : List ℕ) (s : Alike m f g) where
   walk-alike n at a a′ (ended p) e c l =
       let q = walk-met f n at a e in
       walk-end a′ (end-step g at (end-alike at (omega (arith, q .1)) (q .0))) ∙ ap ended (sym (q .1))
-  walk-alike n at a a′ (stopped r) e c l = absurd (refused-not c)
+  walk-alike n at a a′ (stopped r) e c l = absurd (refused-not-accepted c)

@@ -22,8 +22,8 @@ use Rattle.book.specs.declared.types.Book.{Book}
 use Rattle.book.specs.declared.types.BookAnswer.{BookAnswer}
 use Rattle.book.specs.declared.types.StepAnswer.{StepAnswer}
 
-pub refused-not : {e : Refusal} {b : Book} → BookAnswer.Refused e ≡ BookAnswer.Accepted b → ⊥
-refused-not c = constructors-differ cc
+pub refused-not-accepted : {e : Refusal} {b : Book} → BookAnswer.Refused e ≡ BookAnswer.Accepted b → ⊥
+refused-not-accepted c = constructors-differ cc
 
 accepted-inj : {a b : Book} → BookAnswer.Accepted a ≡ BookAnswer.Accepted b → a ≡ b
 accepted-inj e = cc
@@ -33,7 +33,7 @@ unfolding accepted
 given s n Verdict.Fine b e =
     let q : _≡_ {A = Book} (record { settings = s; records = n }) b = accepted-inj e in
     (ap (λ (x : Book). x .settings) (sym q), ap (λ (x : Book). x .records) (sym q))
-given s n (Verdict.Refused r) b e = absurd (refused-not e)
+given s n (Verdict.Refused r) b e = absurd (refused-not-accepted e)
 
 counted-accepted : (f : List ℕ) (n : ℕ) (w : Walk) (b : Book) → counted f n w ≡ BookAnswer.Accepted b → (b .settings ≡ settingsOf f) × (b .records ≡ n + length (placesIn w))
 unfolding counted placesIn
@@ -41,7 +41,7 @@ counted-accepted f n (more at w) b e =
     let h = counted-accepted f (suc n) w b e in (h .0, h .1 ∙ omega arith)
 counted-accepted f n (ended m) b e =
     let h = given (settingsOf f) n (afterEndRecord f m) b e in (h .0, h .1 ∙ sym (add-zero n))
-counted-accepted f n (stopped r) b e = absurd (refused-not e)
+counted-accepted f n (stopped r) b e = absurd (refused-not-accepted e)
 
 pub settings-long : (f : List ℕ) → settingsOk f ≡ true → firstRecord ≤ length f
 unfolding settingsOk
@@ -50,9 +50,9 @@ settings-long f e = lt-skip (length f) firstRecord _ _ false≢true e .0
 pub book-accepted : (f : List ℕ) {b : Book} → bookOf f ≡ BookAnswer.Accepted b → AcceptedBook f b
 unfolding bookOf placesOf
 book-accepted f {b} e =
-    let e1 = lt-skip mostBookBytes (length f) _ _ refused-not e in
-    let e2 = b-take (bookIdentified f) _ _ refused-not (e1 .1) in
-    let e3 = b-take (settingsOk f) _ _ refused-not (e2 .1) in
+    let e1 = lt-skip mostBookBytes (length f) _ _ refused-not-accepted e in
+    let e2 = b-take (bookIdentified f) _ _ refused-not-accepted (e1 .1) in
+    let e3 = b-take (settingsOk f) _ _ refused-not-accepted (e2 .1) in
     let h = counted-accepted f 0 (walkOf f) b (e3 .1) in
     record {
       size = e1 .0;
@@ -67,9 +67,9 @@ book-accepted f {b} e =
 pub walk-counted : (f : List ℕ) {b : Book} → bookOf f ≡ BookAnswer.Accepted b → counted f 0 (walkOf f) ≡ BookAnswer.Accepted b
 unfolding bookOf
 walk-counted f h =
-    let e1 = lt-skip mostBookBytes (length f) _ _ refused-not h in
-    let e2 = b-take (bookIdentified f) _ _ refused-not (e1 .1) in
-    b-take (settingsOk f) _ _ refused-not (e2 .1) .1
+    let e1 = lt-skip mostBookBytes (length f) _ _ refused-not-accepted h in
+    let e2 = b-take (bookIdentified f) _ _ refused-not-accepted (e1 .1) in
+    b-take (settingsOk f) _ _ refused-not-accepted (e2 .1) .1
 
 -- the place of record n: what is ahead of it are the records from n on
 pub record Cursor (f : List ℕ) (n at : ℕ) : Type 0 where

@@ -11,14 +11,14 @@ use Rattle.prelude.specs.Choice.{ifEq}
 use Rattle.prelude.specs.Laws.Choice.{is-eq, is-ne, is-ge, eq-take, lt-skip}
 use Rattle.prelude.specs.Bytes.{byte}
 use Rattle.prelude.specs.Refusals.{afterEnd, refusalAt}
-use Rattle.prelude.specs.Laws.Refusals.{verdict-not}
+use Rattle.prelude.specs.Laws.Refusals.{refused-not-fine}
 use Rattle.prelude.specs.declared.refusals.Verdict.{Verdict}
 use Rattle.book.specs.Settings.{settingsOf, firstRecord}
 use Rattle.book.specs.Walk.{Walk, more, ended, stopped, nextPlace, walkFrom, walkOf}
 use Rattle.book.specs.Fillers.{filler, mostFillers, fillersFrom, afterEndRecord, endIn, fillersOf, unfilled, Filled}
 use Rattle.book.specs.Books.{accepted, counted, bookOf}
 use Rattle.book.specs.Laws.Walk.{At, at-first, walk-met}
-use Rattle.book.specs.Laws.Books.{refused-not, book-accepted, walk-counted}
+use Rattle.book.specs.Laws.Books.{refused-not-accepted, book-accepted, walk-counted}
 use Rattle.book.specs.declared.types.Settings.{Settings}
 use Rattle.book.specs.declared.types.Book.{Book}
 use Rattle.book.specs.declared.types.BookAnswer.{BookAnswer}
@@ -49,7 +49,7 @@ fine-fillers : (f : List ℕ) (k p : ℕ) → p + k ≡ length f → fillersFrom
 unfolding fillersFrom
 fine-fillers f zero p h e = let l : length f ≤ p = omega arith in drop-of-length-le f l
 fine-fillers f (suc k) p h e =
-    let q = eq-take (byte f p) filler _ _ verdict-not e in
+    let q = eq-take (byte f p) filler _ _ refused-not-fine e in
     let r : drop (p + 1) f ≡ replicate k filler = fine-fillers f k (p + 1) (omega arith) (q .1) in
     rw (drop-cons f p 0 (omega arith), q .0) (ap (λ (l : List ℕ). filler ∷ l) (rw (add-one p) at r))
 
@@ -71,7 +71,7 @@ pub record Ended (f : List ℕ) (at : ℕ) (w : Walk) : Type 0 where
 fine-only : (s : Settings) (n : ℕ) (v : Verdict) {b : Book} → accepted s n v ≡ BookAnswer.Accepted b → v ≡ Verdict.Fine
 unfolding accepted
 fine-only s n Verdict.Fine e = refl
-fine-only s n (Verdict.Refused r) e = absurd (refused-not e)
+fine-only s n (Verdict.Refused r) e = absurd (refused-not-accepted e)
 
 pub walk-ended : (f : List ℕ) (n at : ℕ) {b : Book} → At f n at → (w : Walk) → walkFrom f n at ≡ w → counted f n w ≡ BookAnswer.Accepted b → Ended f at w
 unfolding counted endIn
@@ -82,7 +82,7 @@ walk-ended f n at a (more p w) e c =
 walk-ended f n at a (ended p) e c =
     let m = walk-met f n at a e in
     record { behind = omega (arith, m .1); inside = omega (arith, m .1, m .0 .there); fine = fine-only (settingsOf f) n _ c }
-walk-ended f n at a (stopped r) e c = absurd (refused-not c)
+walk-ended f n at a (stopped r) e c = absurd (refused-not-accepted c)
 
 pub book-ended : (f : List ℕ) {b : Book} → bookOf f ≡ BookAnswer.Accepted b → Ended f firstRecord (walkOf f)
 unfolding walkOf
@@ -93,7 +93,7 @@ pub book-filled : (f : List ℕ) {b : Book} → bookOf f ≡ BookAnswer.Accepted
 unfolding unfilled fillersOf afterEndRecord
 book-filled f h =
     let e : Ended f firstRecord (walkOf f) = book-ended f h in
-    let q = lt-skip mostFillers (length f - endIn (walkOf f)) _ _ verdict-not (e .fine) in
+    let q = lt-skip mostFillers (length f - endIn (walkOf f)) _ _ refused-not-fine (e .fine) in
     let r : drop (endIn (walkOf f)) f ≡ replicate (length f - endIn (walkOf f)) filler = fine-fillers f _ _ (omega (arith, e .inside)) (q .1) in
     record {
       whole = sym (take-append-drop (endIn (walkOf f)) f) ∙ ap (λ (l : List ℕ). take (endIn (walkOf f)) f ++ l) r;

@@ -9,7 +9,7 @@ use lib.Seq.{drop-cons}
 use Rattle.prelude.specs.Laws.Choice.{is-eq, is-ne}
 use Rattle.prelude.specs.declared.refusals.Verdict.{Verdict}
 use Rattle.calendar.specs.Lists.{sizeAt, minuteAt, nextAt, listWalkFrom, placesInList, verdictIn}
-use Rattle.calendar.specs.Laws.Lists.{AppointmentAt, ok-facts, walk-end, places-end, verdict-end, list-ok, list-next, list-places}
+use Rattle.calendar.specs.Laws.Lists.{AppointmentAt, appointment-ok-facts, walk-end, places-end, verdict-end, list-fine-appointment-ok, list-next, list-places}
 use Rattle.calendar.specs.Reader.{mostBytes, dayAt, blockAt, listPlace, listEnd, listOf, dayVerdict}
 use Rattle.calendar.specs.Invariants.{BlockAt, FineList, ListOn}
 use Rattle.calendar.specs.Laws.Reader.{day-fine}
@@ -36,7 +36,7 @@ pub record ListAhead (f : List ℕ) (e : ℕ) (places : List ℕ) (n at : ℕ) :
 module _ {f : List ℕ} {e : ℕ} {places : List ℕ} {n at : ℕ} (c : ListCursor f e places n at) where
   pub cursor-ahead : at < e → ListAhead f e places n at
   cursor-ahead h =
-      let a : AppointmentAt f e (c .low) at = ok-facts f e (c .low) at (list-ok f e (c .low) at (c .fine) h) in
+      let a : AppointmentAt f e (c .low) at = appointment-ok-facts f e (c .low) at (list-fine-appointment-ok f e (c .low) at (c .fine) h) in
       let q : placesInList (listWalkFrom f e (c .low) at) ≡ at ∷ placesInList (listWalkFrom f e (minuteAt f at) (nextAt f at)) = list-places f e (c .low) at (c .fine) h in
       let l : length places ≡ n + suc (length (placesInList (listWalkFrom f e (minuteAt f at) (nextAt f at)))) = c .count ∙ ap (λ (x : List ℕ). n + length x) q in
       let d : getD places n 0 ∷ drop (suc n) places ≡ at ∷ placesInList (listWalkFrom f e (minuteAt f at) (nextAt f at)) = sym (drop-cons places n 0 (omega arith)) ∙ c .ahead ∙ q in
@@ -61,9 +61,9 @@ module _ (f : List ℕ) (p d : ℕ) where
   unfolding placesFrom
   places-here k e = is-eq e _ _
 
-  pub places-on : (k : ℕ) → (dayAt f p ≡ d → ⊥) → placesFrom (suc k) f p d ≡ placesFrom k f (p + 12) d
+  pub places-from-other-day : (k : ℕ) → (dayAt f p ≡ d → ⊥) → placesFrom (suc k) f p d ≡ placesFrom k f (p + 12) d
   unfolding placesFrom
-  places-on k e = is-ne e _ _
+  places-from-other-day k e = is-ne e _ _
 
 -- the list at the day's descriptor, and the empty one where there is none
 pub list-here : (f : List ℕ) (d p : ℕ) → length f ≤ mostBytes → dayVerdict f p ≡ Verdict.Fine → placesOn f d ≡ placesInList (listOf f p) → ListOn f d (listPlace f (blockAt f p)) (listEnd f (blockAt f p))

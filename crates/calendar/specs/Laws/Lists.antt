@@ -67,9 +67,9 @@ pub record AppointmentAt (f : List ℕ) (e low at : ℕ) : Type 0 where
   pub ends : firstZero (sizeAt f at - 4) f (at + 4) + 1 ≡ nextAt f at
 
 module _ (f : List ℕ) (e low at : ℕ) where
-  pub ok-facts : appointmentOk f e low at ≡ true → AppointmentAt f e low at
+  pub appointment-ok-facts : appointmentOk f e low at ≡ true → AppointmentAt f e low at
   unfolding appointmentOk
-  ok-facts h =
+  appointment-ok-facts h =
       let e1 = lt-skip (sizeAt f at) 5 _ _ false≢true h in
       let e2 = lt-skip e (nextAt f at) _ _ false≢true (e1 .1) in
       let e3 = lt-skip 3 (flagsAt f at) _ _ false≢true (e2 .1) in
@@ -78,9 +78,9 @@ module _ (f : List ℕ) (e low at : ℕ) where
       let e6 = eq-take (firstZero (sizeAt f at - 4) f (at + 4) + 1) (nextAt f at) _ _ false≢true (e5 .1) in
       record { size = e1 .0; inside = e2 .0; flags = e3 .0; minute = e4 .0; rises = e5 .0; ends = e6 .0 }
 
-  pub facts-ok : AppointmentAt f e low at → appointmentOk f e low at ≡ true
+  pub facts-appointment-ok : AppointmentAt f e low at → appointmentOk f e low at ≡ true
   unfolding appointmentOk
-  facts-ok a =
+  facts-appointment-ok a =
       rw (is-ge (a .size), is-ge (a .inside), is-ge (a .flags), is-ge (a .minute), is-ge (a .rises), is-eq (a .ends))
 
 -- the walk does not depend on the number that bounds it
@@ -94,7 +94,7 @@ fuel (suc k) (suc j) f e low at h l =
     (λ _. listWalkF (suc k) f e low at ≡ listWalkF (suc j) f e low at)
     at e tt tt
     (λ i. bool-cases (appointmentOk f e low at)
-    (λ o. let a : AppointmentAt f e low at = ok-facts f e low at o in
+    (λ o. let a : AppointmentAt f e low at = appointment-ok-facts f e low at o in
     let q = fuel k j f e (minuteAt f at) (nextAt f at) (omega arith) (omega arith) in
     rw (is-lt i, is-true o, is-lt i, is-true o, q))
     (λ o. rw (is-lt i, is-false o, is-lt i, is-false o)))
@@ -115,7 +115,7 @@ module _ (f : List ℕ) (e low at : ℕ) where
   pub walk-more : at < e → appointmentOk f e low at ≡ true → listWalkFrom f e low at ≡ more at (listWalkFrom f e (minuteAt f at) (nextAt f at))
   unfolding listWalkFrom listWalkF
   walk-more h o =
-      let a : AppointmentAt f e low at = ok-facts f e low at o in
+      let a : AppointmentAt f e low at = appointment-ok-facts f e low at o in
       begun h ∙ is-lt h _ _ ∙ is-true o _ _ ∙ ap (more at) (fuel (e - at - 1) (e - nextAt f at) f e (minuteAt f at) (nextAt f at) (omega arith) (omega arith))
 
   -- where none stands
@@ -148,13 +148,13 @@ refused-not c = constructors-differ cc
 
 -- In a list without refusal an appointment stands before the end, and what comes after it is without refusal.
 module _ (f : List ℕ) (e low at : ℕ) (fine : verdictIn (listWalkFrom f e low at) ≡ Verdict.Fine) (h : at < e) where
-  pub list-ok : appointmentOk f e low at ≡ true
-  list-ok =
+  pub list-fine-appointment-ok : appointmentOk f e low at ≡ true
+  list-fine-appointment-ok =
       bool-cases (appointmentOk f e low at) (λ o. o)
       (λ o. absurd (refused-not (sym (ap verdictIn (walk-stop f e low at h o) ∙ verdict-stop at) ∙ fine)))
 
   pub list-next : verdictIn (listWalkFrom f e (minuteAt f at) (nextAt f at)) ≡ Verdict.Fine
-  list-next = sym (ap verdictIn (walk-more f e low at h list-ok) ∙ verdict-more at _) ∙ fine
+  list-next = sym (ap verdictIn (walk-more f e low at h list-fine-appointment-ok) ∙ verdict-more at _) ∙ fine
 
   pub list-places : placesInList (listWalkFrom f e low at) ≡ at ∷ placesInList (listWalkFrom f e (minuteAt f at) (nextAt f at))
-  list-places = ap placesInList (walk-more f e low at h list-ok) ∙ places-more at _
+  list-places = ap placesInList (walk-more f e low at h list-fine-appointment-ok) ∙ places-more at _

@@ -9,8 +9,8 @@ use lib.ListN.{length}
 use Rattle.prelude.specs.Laws.Choice.{is-lt, is-ge, is-eq, is-true, is-false, lt-skip, eq-take, b-take, constructors-differ}
 use Rattle.prelude.specs.Bytes.{word}
 use Rattle.prelude.specs.Refusals.{badTable, badBlock, refusalAt}
-use Rattle.prelude.specs.Laws.Refusals.{verdict-not}
-use Rattle.prelude.specs.Laws.Verdicts.{then-fine, then-refused, both-fine}
+use Rattle.prelude.specs.Laws.Refusals.{refused-not-fine}
+use Rattle.prelude.specs.Laws.Verdicts.{and-then-fine, and-then-refused, and-then-fine-both}
 use Rattle.prelude.specs.declared.refusals.Refusal.{Refusal}
 use Rattle.prelude.specs.declared.refusals.Verdict.{Verdict}
 use Rattle.days.specs.Days.{lastDay}
@@ -70,7 +70,7 @@ module _ (f : List ℕ) (p : ℕ) where
 
   pub day-fine : dayVerdict f p ≡ Verdict.Fine → BlockAt f p × (verdictIn (listOf f p) ≡ Verdict.Fine)
   unfolding dayVerdict
-  day-fine h = let e = b-take (blockOk f p) _ _ verdict-not h in (block-facts (e .0), e .1)
+  day-fine h = let e = b-take (blockOk f p) _ _ refused-not-fine h in (block-facts (e .0), e .1)
 
   -- the days: of no descriptor, one that is fine, one that is refused
   pub days-none : daysFrom 0 f p ≡ Verdict.Fine
@@ -79,15 +79,15 @@ module _ (f : List ℕ) (p : ℕ) where
 
   pub days-next : (k : ℕ) → dayVerdict f p ≡ Verdict.Fine → daysFrom (suc k) f p ≡ daysFrom k f (p + 12)
   unfolding daysFrom
-  days-next k h = then-fine _ refl h
+  days-next k h = and-then-fine _ refl h
 
   pub days-stop : (k : ℕ) {e : Refusal} → dayVerdict f p ≡ Verdict.Refused e → daysFrom (suc k) f p ≡ Verdict.Refused e
   unfolding daysFrom
-  days-stop k h = then-refused _ refl h
+  days-stop k h = and-then-refused _ refl h
 
   pub days-fine : (k : ℕ) → daysFrom (suc k) f p ≡ Verdict.Fine → (dayVerdict f p ≡ Verdict.Fine) × (daysFrom k f (p + 12) ≡ Verdict.Fine)
   unfolding daysFrom
-  days-fine k h = both-fine _ _ h
+  days-fine k h = and-then-fine-both _ _ h
 
 pub answer-fine : (n : ℕ) → calendarAnswered n Verdict.Fine ≡ CountAnswer.Count n
 unfolding calendarAnswered
@@ -109,13 +109,13 @@ calendar-facts f {n} h =
     let e2 = b-take (calendarIdentified f) _ _ answer-not (e1 .1) in
     let e3 = lt-skip (length f) (tableEnd f) _ _ answer-not (e2 .1) in
     let e4 = answer-taken (countOf f) _ (e3 .1) in
-    let e5 = both-fine _ _ (e4 .1) in
+    let e5 = and-then-fine-both _ _ (e4 .1) in
     record { size = e1 .0; named = e2 .0; count = e4 .0; whole = e3 .0; rises = e5 .0; days = e5 .1 }
 
 pub facts-calendar : (f : List ℕ) (n : ℕ) → AcceptedFile f n → calendarOf f ≡ CountAnswer.Count n
 unfolding calendarOf
 facts-calendar f n a =
-    rw (is-ge (a .size), is-true (a .named), is-ge (a .whole), then-fine _ refl (a .rises), a .days, answer-fine, ← (a .count))
+    rw (is-ge (a .size), is-true (a .named), is-ge (a .whole), and-then-fine _ refl (a .rises), a .days, answer-fine, ← (a .count))
 
 -- the k-th of the days of an accepted file
 pub day-there : (f : List ℕ) (k p i : ℕ) → daysFrom k f p ≡ Verdict.Fine → i < k → dayVerdict f (p + 12 * i) ≡ Verdict.Fine

@@ -16,7 +16,7 @@ use Rattle.calendar.specs.Laws.Reader.{facts-calendar}
 use Rattle.calendar.specs.Laws.File.{length-block, length-table, length-head, length-filled, filled-piece, length-blocks, length-file}
 use Rattle.calendar.specs.declared.types.CalendarSettings.{CalendarSettings}
 use Rattle.prelude.specs.declared.answers.CountAnswer.{CountAnswer}
-use Rattle.calendar_writer.specs.Laws.From.{From, from-start, from-recast, moved-to, from-skip, word-here}
+use Rattle.calendar_writer.specs.Laws.From.{From, from-start, from-recast, from-place-equal, from-skip, word-here}
 use Rattle.calendar_writer.specs.Laws.TableRead.{GoodDays, listOn, TableRead, table-read}
 
 -- the blocks end in time: the last starts below block 32,768 and has at most 65,545 bytes
@@ -50,12 +50,12 @@ module _ (s : CalendarSettings) (ds : List Day) where
 
   behind-head : From file 64 (filled (table first ds) ++ blocks ds)
   unfolding fileOf
-  behind-head = moved-to (from-skip (headBytes s (length ds)) (from-start file)) (omega (arith, length-head s (length ds)))
+  behind-head = from-place-equal (from-skip (headBytes s (length ds)) (from-start file)) (omega (arith, length-head s (length ds)))
 
   at-blocks : From file (64 * first) (blocks ds)
   at-blocks =
       let t = length-table first ds in
-      moved-to (from-skip (filled (table first ds)) behind-head) (omega (arith, length-filled (table first ds)))
+      from-place-equal (from-skip (filled (table first ds)) behind-head) (omega (arith, length-filled (table first ds)))
 
   -- at most 65,535 days that the reader takes as they are
   module _ (few : length ds < 65536) (good : GoodDays 0 first ds) where

@@ -96,12 +96,12 @@ module _ (o : List ℕ) (at d : ℕ) (ss : List ℕ) (p : ℕ → Bool) (a : App
 
 module _ {o : List ℕ} {at d : ℕ} {ss : List ℕ} {so : ℕ → List Appointment} {places out : List ℕ} (inside : at + 64 * unitsTo (length ss) ss ≤ length o) (f : FilledBlocks o at d ss so places out) where
   -- one appointment more on each day that passes
-  pub fill-one :
+  pub filled-append-appointment :
       (p : ℕ → Bool) (a : Appointment) (more : ℕ → List Appointment) {places′ : List ℕ} → Fits so 0 ss → Fits more 0 ss
       → ((i : ℕ) → i < length ss → more i ≡ ifB (p i) (so i ++ (a ∷ [])) (so i))
       → Added p (length (appointmentBytes a)) (length ss) places places′
       → FilledBlocks o at d ss more places′ (scatter (length ss) p (appointmentBytes a) places 0 out)
-  fill-one p a more {places′} old new e moved =
+  filled-append-appointment p a more {places′} old new e moved =
       let room : (i : ℕ) → 0 ≤ i → i < length ss → p i ≡ true → length (appointmentsBytes (so i)) + length (appointmentBytes a) ≤ bytesIn (getD ss i 0) =
       λ i z l t. let q : more i ≡ so i ++ (a ∷ []) = e i l ∙ is-true t _ _ in omega (arith, length-more (so i) a, ap (λ (z : List Appointment). length (appointmentsBytes z)) q, let w = new .each i l in rw (zero-add i) at w) in
       record {

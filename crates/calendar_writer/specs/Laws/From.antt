@@ -23,8 +23,8 @@ module _ {f : List ℕ} {p : ℕ} {xs : List ℕ} (h : From f p xs) where
   pub from-recast : {ys : List ℕ} → xs ≡ ys → From f p ys
   from-recast e = record { rest = h .rest ∙ e; place = h .place }
 
-  pub moved-to : {q : ℕ} → p ≡ q → From f q xs
-  moved-to e = rw e at h
+  pub from-place-equal : {q : ℕ} → p ≡ q → From f q xs
+  from-place-equal e = rw e at h
 
   -- where the file ends
   pub whole : p + length xs ≡ length f
@@ -51,7 +51,7 @@ module _ {f : List ℕ} {p : ℕ} where
 
   -- a number of two bytes, and what stands behind it
   pub next-word : (n : ℕ) {ys : List ℕ} → From f p (le16 n ++ ys) → From f (p + 2) ys
-  next-word n {ys} h = moved-to (from-skip (le16 n) h) (ap (λ (k : ℕ). p + k) (length-le16 n))
+  next-word n {ys} h = from-place-equal (from-skip (le16 n) h) (ap (λ (k : ℕ). p + k) (length-le16 n))
 
   pub word-here : (n : ℕ) {ys : List ℕ} → n < 65536 → From f p (le16 n ++ ys) → (word f p ≡ n) × From f (p + 2) ys
   word-here n {ys} l h =

@@ -15,9 +15,9 @@ use Rattle.texts.specs.Notes.{noZero}
 use Rattle.calendar.specs.File.{Appointment, appointmentBytes, appointmentsBytes}
 use Rattle.calendar.specs.Lists.{sizeAt, flagsAt, minuteAt, nextAt, firstZero, listWalkFrom, placesInList, verdictIn}
 use Rattle.calendar.specs.Shown.{appointmentAt}
-use Rattle.calendar.specs.Laws.Lists.{zero-here, zero-later, AppointmentAt, facts-ok, walk-end, walk-more, places-more, places-end, verdict-more, verdict-end}
+use Rattle.calendar.specs.Laws.Lists.{zero-here, zero-later, AppointmentAt, facts-appointment-ok, walk-end, walk-more, places-more, places-end, verdict-more, verdict-end}
 use Rattle.calendar.specs.Laws.File.{length-appointment}
-use Rattle.calendar_writer.specs.Laws.From.{From, from-recast, moved-to, from-skip, part-here, byte-here, word-here}
+use Rattle.calendar_writer.specs.Laws.From.{From, from-recast, from-place-equal, from-skip, part-here, byte-here, word-here}
 
 -- an appointment that the reader takes as it is
 pub record GoodAppointment (a : Appointment) : Type 0 where
@@ -59,16 +59,16 @@ unfolding appointmentBytes
 read {f} {at} a post g h =
     let b1 = byte-here h in
     let b2 = byte-here (b1 .1) in
-    let m : From f (at + 2) (le16 (a .minute) ++ (a .text ++ (0 ∷ post))) = from-recast (moved-to (b2 .1) (omega arith)) (nested (le16 (a .minute)) (a .text) post) in
+    let m : From f (at + 2) (le16 (a .minute) ++ (a .text ++ (0 ∷ post))) = from-recast (from-place-equal (b2 .1) (omega arith)) (nested (le16 (a .minute)) (a .text) post) in
     let w = word-here (a .minute) (omega arith) m in
-    let t : From f (at + 4) (a .text ++ (0 ∷ post)) = moved-to (w .1) (omega arith) in
+    let t : From f (at + 4) (a .text ++ (0 ∷ post)) = from-place-equal (w .1) (omega arith) in
     let z = from-skip (a .text) t in
     record {
       size = b1 .0;
       flags = b2 .0;
       minute = w .0;
       text = t;
-      next = moved-to (byte-here z .1) (omega (arith, b1 .0));
+      next = from-place-equal (byte-here z .1) (omega (arith, b1 .0));
     }
 
 -- it is an appointment for the reader, in a list that ends at e
@@ -110,7 +110,7 @@ list-read {f} e low at (a ∷ al) post g h q =
     let o : AppointmentAt f e low at = ok e low a (appointmentsBytes al ++ post) ga r (g .least .0) (omega arith) in
     let next : GoodList (minuteAt f at) al = record { each = λ b i. g .each b (List·Memᴰ·tail i); least = rw (r .minute) (g .rising .0); rising = g .rising .1 } in
     let i : ListRead f e (minuteAt f at) (nextAt f at) al = list-read e (minuteAt f at) (nextAt f at) al post next (r .next) (omega (arith, r .size)) in
-    let w = walk-more f e low at (omega arith) (facts-ok f e low at o) in
+    let w = walk-more f e low at (omega arith) (facts-appointment-ok f e low at o) in
     record {
       fine = ap verdictIn w ∙ verdict-more at _ ∙ i .fine;
       shown = ap (λ x. map (appointmentAt f) (placesInList x)) w ∙ ap (map (appointmentAt f)) (places-more at _) ∙ rw (same a (appointmentsBytes al ++ post) r, i .shown);

@@ -11,18 +11,18 @@ use Rattle.days.specs.Days.{lastDay}
 use Rattle.calendar.specs.File.{Appointment, Day, appointmentsBytes, lastBlock}
 use Rattle.calendar_writer.specs.DayLists.{addDay, daysWith, pastLastBlockFrom}
 use Rattle.calendar_writer.specs.Laws.ListRead.{GoodList}
-use Rattle.calendar_writer.specs.Laws.TableRead.{GoodDays, listOn, on-none}
+use Rattle.calendar_writer.specs.Laws.TableRead.{GoodDays, listOn, list-on-nil}
 
 module _ (d : ℕ) (ds : List Day) where
   -- a day without appointments is left out, another stands in front
-  pub before-none : addDay d [] ds ≡ ds
+  pub add-day-nil : addDay d [] ds ≡ ds
   unfolding addDay
-  before-none = refl
+  add-day-nil = refl
 
-  pub before-some : (al : List Appointment) → 0 < length al → addDay d al ds ≡ record { day = d; appointments = al } ∷ ds
+  pub add-day-some : (al : List Appointment) → 0 < length al → addDay d al ds ≡ record { day = d; appointments = al } ∷ ds
   unfolding addDay
-  before-some [] h = absurd (omega arith)
-  before-some (a ∷ al) h = refl
+  add-day-some [] h = absurd (omega arith)
+  add-day-some (a ∷ al) h = refl
 
   before-few : (al : List Appointment) → length (addDay d al ds) ≤ suc (length ds)
   unfolding addDay
@@ -72,7 +72,7 @@ module _ (list : ℕ → List Appointment) where
   -- outside the span they hold nothing
   pub days-other : (k d x : ℕ) → (d ≤ x → x < d + k → ⊥) → listOn x (daysWith list k d) ≡ []
   unfolding daysWith
-  days-other zero d x n = on-none x
+  days-other zero d x n = list-on-nil x
   days-other (suc k) d x n =
       before-other d (daysWith list k (suc d)) x (list d) (λ e. n (omega arith) (omega arith))
       ∙ days-other k (suc d) x (λ l h. n (omega arith) (omega arith))

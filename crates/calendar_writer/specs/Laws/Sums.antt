@@ -15,7 +15,7 @@ use Rattle.calendar.specs.Laws.File.{length-block}
 use Rattle.calendar.specs.declared.types.CalendarSettings.{CalendarSettings}
 use Rattle.calendar_writer.specs.DayLists.{addDay, daysWith}
 use Rattle.calendar_writer.specs.Laws.Measure.{unitsOf, file-units, beforeLast, past-last}
-use Rattle.calendar_writer.specs.Laws.Spans.{before-none, before-some, days-none, days-next}
+use Rattle.calendar_writer.specs.Laws.Spans.{add-day-nil, add-day-some, days-none, days-next}
 use Rattle.calendar_writer.specs.Sums.{measureOf, sumOf, countIn, alarmsIn, bytesIn, Sum, Sums, unitsFor, measured, sumUp, descriptorOf, sumTable, blockHead, rowOf, rows}
 use Rattle.calendar_writer.specs.declared.types.Measure.{Measure}
 
@@ -57,10 +57,10 @@ module _ (list : ℕ → List Appointment) where
   skip-day d ss h e =
       days-next list (length ss) d
       ∙ ap (λ (al : List Appointment). addDay d al (daysWith list (length ss) (suc d))) (sum-none (list d) (rw e at h))
-      ∙ before-none d _
+      ∙ add-day-nil d _
 
   take-day : (d : ℕ) (ss : List ℕ) {s : ℕ} → Sum s (list d) → (s ≡ 0 → ⊥) → daysWith list (suc (length ss)) d ≡ dayOf d (list d) ∷ daysWith list (length ss) (suc d)
-  take-day d ss h n = days-next list (length ss) d ∙ before-some d _ (list d) (sum-some (list d) h n)
+  take-day d ss h n = days-next list (length ss) d ∙ add-day-some d _ (list d) (sum-some (list d) h n)
 
   -- the table
   descriptor-sum : {s : ℕ} (d u : ℕ) → Sum s (list d) → descriptorOf d (alarmsIn s) u ≡ descriptorBytes u (dayOf d (list d))

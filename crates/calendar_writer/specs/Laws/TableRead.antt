@@ -14,7 +14,7 @@ use Rattle.calendar.specs.Reader.{tableEnd, dayAt, listOf, tableFrom, daysFrom}
 use Rattle.calendar.specs.Shown.{placesFrom, appointmentAt}
 use Rattle.calendar.specs.Laws.Reader.{table-none, table-rises, days-none, days-next}
 use Rattle.calendar.specs.Laws.File.{length-filled, filled-piece}
-use Rattle.calendar_writer.specs.Laws.From.{From, from-recast, moved-to, from-skip}
+use Rattle.calendar_writer.specs.Laws.From.{From, from-recast, from-place-equal, from-skip}
 use Rattle.calendar_writer.specs.Laws.DayRead.{GoodDay, Described, day-described, DayRead, day-read}
 
 -- days that the reader takes as they are, none before low, whose first block stands at unit u
@@ -27,9 +27,9 @@ unfoldable pub listOn : ℕ → List Day → List Appointment
 listOn x [] = []
 listOn x (d ∷ ds) = ifEq (d .day) x (d .appointments) (listOn x ds)
 
-pub on-none : (x : ℕ) → listOn x [] ≡ []
+pub list-on-nil : (x : ℕ) → listOn x [] ≡ []
 unfolding listOn
-on-none x = refl
+list-on-nil x = refl
 
 -- the table and the days are read without refusal, and show what was written
 pub record TableRead (f : List ℕ) (p low : ℕ) (ds : List Day) : Type 0 where
@@ -57,7 +57,7 @@ table-read {f} p u low (d ∷ ds) post after g t h b =
     let s : Described f p u d (table n ds ++ post) = day-described u d (table n ds ++ post) (g .0 .known) (g .2) (from-recast h (append-assoc (descriptorBytes u d) (table n ds) post)) in
     let here : From f (64 * u) (filled (blockBytes d) ++ (blocks ds ++ after)) = from-recast b (append-assoc (filled (blockBytes d)) (blocks ds) after) in
     let r : DayRead f p d = day-read u d (table n ds ++ post) _ (g .0) (g .2) t s (from-recast here (filled-piece (blockBytes d) (blocks ds ++ after))) in
-    let next : From f (64 * n) (blocks ds ++ after) = moved-to (from-skip (filled (blockBytes d)) here) (omega (arith, length-filled (blockBytes d))) in
+    let next : From f (64 * n) (blocks ds ++ after) = from-place-equal (from-skip (filled (blockBytes d)) here) (omega (arith, length-filled (blockBytes d))) in
     let i : TableRead f (p + 12) (d .day + 1) ds = table-read (p + 12) n (d .day + 1) ds post after (g .3) (omega arith) (s .next) next in
     record {
       rises = table-rises f p low (length ds) (rw (s .day) (g .0 .known)) (rw (s .day) (g .1)) ∙ rw (s .day) (i .rises);

@@ -9,17 +9,17 @@ use native.Mathlib.Omega.{arith}
 use lib.ListN.{length}
 use Rattle.prelude.specs.Laws.Choice.{lt-elim, eq-elim, lt-take, lt-skip, eq-take, eq-skip, b-take, b-skip, constructors-differ}
 use Rattle.prelude.specs.Refusals.{badChain}
-use Rattle.prelude.specs.Laws.Refusals.{verdict-not}
+use Rattle.prelude.specs.Laws.Refusals.{refused-not-fine}
 use Rattle.prelude.specs.Verdicts.{inTurn}
-use Rattle.prelude.specs.Laws.Verdicts.{fine-good, both-fine, all-fine}
+use Rattle.prelude.specs.Laws.Verdicts.{unless-bad-fine, and-then-fine-both, in-turn-fine-each}
 use Rattle.prelude.specs.declared.refusals.Verdict.{Verdict}
 use Rattle.chains.specs.Chains.{fieldOf, noRecord, mostRecords, sizesOk, entries, days, headAt, headBefore, headBad, chainAt, nextBad, linked, entryVerdict, headVerdict, linksVerdict, chainsJudged, chainsVerdict, chainsAnswered, chainsAnswer}
 use Rattle.chains.specs.Stages.{EqualLengths, Linked, Passed}
 use Rattle.prelude.specs.declared.answers.CountAnswer.{CountAnswer}
 
-pub sizes-in : (previous next kind minute : List ℕ) {v : Bool} → v ≡ sizesOk (length previous) (length next) (length kind) (length minute) → v ≡ true → EqualLengths previous next kind minute
+pub sizes-ok-equal-lengths : (previous next kind minute : List ℕ) {v : Bool} → v ≡ sizesOk (length previous) (length next) (length kind) (length minute) → v ≡ true → EqualLengths previous next kind minute
 unfolding sizesOk
-sizes-in previous next kind minute e f =
+sizes-ok-equal-lengths previous next kind minute e f =
     let a = eq-take (length next) (length previous) _ _ false≢true (sym e ∙ f) in
     let b = eq-take (length kind) (length previous) _ _ false≢true (a .1) in
     let c = eq-take (length minute) (length previous) _ _ false≢true (b .1) in
@@ -31,7 +31,7 @@ fine-links : (previous next rs : List ℕ) → linked previous next rs ≡ Verdi
 unfolding linked
 fine-links previous next [] e r m = absurd (List·Memᴰ·not-nil m)
 fine-links previous next (x ∷ xs) e r m =
-    let s = b-skip (nextBad previous next x) _ _ verdict-not e in
+    let s = b-skip (nextBad previous next x) _ _ refused-not-fine e in
     ⊎-elim (λ (z : r ≡ x). ap (nextBad previous next) z ∙ s .0) (λ z. fine-links previous next xs (s .1) r z) (List·Memᴰ·cases-cons m)
 
 -- sizes, heads and links that were judged fine
@@ -40,21 +40,21 @@ judged-linked t previous next kind minute k e s p f q g =
     record {
       equal = s .nexts;
       most = s .most;
-      heads = λ i l. fine-good _ badChain i (all-fine (headVerdict t previous) k 0 (sym p ∙ f) i (omega arith) (omega arith));
-      nexts = λ i l. fine-links previous next (chainAt t next i) (all-fine (linksVerdict t previous next) k 0 (sym q ∙ g) i (omega arith) (omega arith));
+      heads = λ i l. unless-bad-fine _ badChain i (in-turn-fine-each (headVerdict t previous) k 0 (sym p ∙ f) i (omega arith) (omega arith));
+      nexts = λ i l. fine-links previous next (chainAt t next i) (in-turn-fine-each (linksVerdict t previous next) k 0 (sym q ∙ g) i (omega arith) (omega arith));
     }
 
 -- a fine verdict: all stages were passed
 pub fine-passed : (t previous next kind minute : List ℕ) → chainsVerdict t previous next kind minute ≡ Verdict.Fine → Passed t previous next kind minute
 unfolding chainsVerdict chainsJudged
 fine-passed t previous next kind minute e =
-    let a = b-take (sizesOk (length previous) (length next) (length kind) (length minute)) _ _ verdict-not e in
-    let b = eq-skip (entries t) 0 _ _ verdict-not (a .1) in
-    let c = both-fine (inTurn (entryVerdict t) (entries t) 0) _ (b .1) in
-    let d = both-fine (inTurn (headVerdict t previous) (days t) 0) _ (c .1) in
-    let g = both-fine (inTurn (linksVerdict t previous next) (days t) 0) _ (d .1) in
+    let a = b-take (sizesOk (length previous) (length next) (length kind) (length minute)) _ _ refused-not-fine e in
+    let b = eq-skip (entries t) 0 _ _ refused-not-fine (a .1) in
+    let c = and-then-fine-both (inTurn (entryVerdict t) (entries t) 0) _ (b .1) in
+    let d = and-then-fine-both (inTurn (headVerdict t previous) (days t) 0) _ (c .1) in
+    let g = and-then-fine-both (inTurn (linksVerdict t previous next) (days t) 0) _ (d .1) in
     record {
-      sizes = sizes-in previous next kind minute refl (a .0);
+      sizes = sizes-ok-equal-lengths previous next kind minute refl (a .0);
       some = omega (arith, b .0);
       entry-fine = c .0;
       head-fine = d .0;
@@ -80,19 +80,19 @@ accepted-linked t previous next kind minute n e =
     judged-linked t previous next kind minute (days t) refl (p .sizes) refl (p .head-fine) refl (p .links-fine)
 
 -- a good head: in range, with no previous, and no earlier entry's
-pub head-in : (t previous : List ℕ) (i : ℕ) → headBad t previous i ≡ false → (headAt t i < length previous) × (fieldOf previous (headAt t i) ≡ noRecord) × (headBefore t (headAt t i) i ≡ false)
+pub head-bad-false-facts : (t previous : List ℕ) (i : ℕ) → headBad t previous i ≡ false → (headAt t i < length previous) × (fieldOf previous (headAt t i) ≡ noRecord) × (headBefore t (headAt t i) i ≡ false)
 unfolding headBad
-head-in t previous i e =
+head-bad-false-facts t previous i e =
     let a = lt-take (headAt t i) (length previous) _ _ true≢false e in
     let b = eq-take (fieldOf previous (headAt t i)) noRecord _ _ true≢false (a .1) in
     (a .0, b .0, b .1)
 
-pub head-not : (t : List ℕ) (h i j : ℕ) → headBefore t h i ≡ false → j < i → headAt t j ≡ h → ⊥
+pub head-before-false-apart : (t : List ℕ) (h i j : ℕ) → headBefore t h i ≡ false → j < i → headAt t j ≡ h → ⊥
 unfolding headBefore
-head-not t h zero j e l q = absurd (omega arith)
-head-not t h (suc i) j e l q =
+head-before-false-apart t h zero j e l q = absurd (omega arith)
+head-before-false-apart t h (suc i) j e l q =
     let s = eq-skip (headAt t i) h _ _ true≢false e in
-    lt-elim {X = Unit {0}} (λ _. ⊥) j i tt tt (λ a. head-not t h i j (s .1) a q)
+    lt-elim {X = Unit {0}} (λ _. ⊥) j i tt tt (λ a. head-before-false-apart t h i j (s .1) a q)
     (λ a. let z : i ≡ j = omega arith in s .0 (ap (headAt t) z ∙ q))
 
 -- a good next: none, or in range and named back

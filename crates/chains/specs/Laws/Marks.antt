@@ -12,12 +12,12 @@ use Rattle.prelude.specs.Choice.{ifLt, ifEq}
 use Rattle.prelude.specs.Laws.Choice.{is-eq, is-ne, is-lt, is-ge, lt-elim, eq-elim}
 use Rattle.prelude.specs.Refusals.{badChain}
 use Rattle.prelude.specs.Verdicts.{inTurn}
-use Rattle.prelude.specs.Laws.Verdicts.{fine-good, all-fine}
+use Rattle.prelude.specs.Laws.Verdicts.{unless-bad-fine, in-turn-fine-each}
 use Rattle.prelude.specs.declared.refusals.Verdict.{Verdict}
 use Rattle.chains.specs.Chains.{fieldOf, noRecord, headAt, headBefore, headBad, headVerdict}
 use Rattle.chains.specs.Stages.{HeadsIn}
 use Rattle.chains.specs.Marks.{noMarks, marks, headMarked}
-use Rattle.chains.specs.Laws.Linked.{head-in}
+use Rattle.chains.specs.Laws.Linked.{head-bad-false-facts}
 
 pub marks-none : (n : ℕ) (t : List ℕ) {met : List ℕ} → met ≡ noMarks n → met ≡ marks n t 0
 unfolding marks
@@ -58,4 +58,4 @@ marked-bad n t previous i l e d q = q ∙ rw (e, d) (by-marks n t previous i l)
 -- fine heads are records
 pub heads-in : (t previous : List ℕ) (k : ℕ) {v : Verdict} → v ≡ inTurn (headVerdict t previous) k 0 → v ≡ Verdict.Fine → HeadsIn t k (length previous)
 heads-in t previous k e f i l =
-    head-in t previous i (fine-good _ badChain i (all-fine (headVerdict t previous) k 0 (sym e ∙ f) i (omega arith) (omega arith))) .0
+    head-bad-false-facts t previous i (unless-bad-fine _ badChain i (in-turn-fine-each (headVerdict t previous) k 0 (sym e ∙ f) i (omega arith) (omega arith))) .0

@@ -8,7 +8,7 @@ use native.Mathlib.Omega.{arith}
 use Rattle.prelude.specs.Choice.{ifB}
 use Rattle.prelude.specs.Laws.Choice.{b-elim, eq-elim, constructors-differ}
 use Rattle.prelude.specs.Refusals.{badArrays, badDayTable, badChain, badChainOrder}
-use Rattle.prelude.specs.Laws.Refusals.{verdict-not}
+use Rattle.prelude.specs.Laws.Refusals.{refused-not-fine}
 use Rattle.prelude.specs.Verdicts.{refused, unlessBad, andThen, inTurn}
 use Rattle.prelude.specs.declared.refusals.Refusal.{Refusal}
 use Rattle.prelude.specs.declared.refusals.Verdict.{Verdict}
@@ -23,7 +23,7 @@ numberOf Verdict.Fine = 0
 numberOf (Verdict.Refused e) = e .number
 
 fine-numbered : Numbered Verdict.Fine
-fine-numbered e h = absurd (verdict-not (sym h))
+fine-numbered e h = absurd (refused-not-fine (sym h))
 
 refused-numbered : (n p : ℕ) → 30 ≤ n → n ≤ 33 → Numbered (refused n p)
 refused-numbered n p l m e h = let q : n ≡ e .number = ap numberOf h in (omega arith, omega arith)

@@ -6,7 +6,7 @@ use mathlib.Core.Bool.{Bool, false, true≢false}
 use mathlib.Core.Logic.{⊎-elim}
 use mathlib.Core.List.{List, [], _∷_, List·Memᴰ, List·Memᴰ·head, List·Memᴰ·tail, List·Memᴰ·cases-cons, List·Memᴰ·not-nil}
 use Rattle.prelude.specs.Laws.Choice.{is-ge, is-eq, is-false, eq-elim, lt-skip, b-skip}
-use Rattle.prelude.specs.Laws.Refusals.{verdict-not}
+use Rattle.prelude.specs.Laws.Refusals.{refused-not-fine}
 use Rattle.prelude.specs.declared.refusals.Verdict.{Verdict}
 use Rattle.chains.specs.Chains.{fieldOf, valuesBad, misplaced, orderedAfter, ordered}
 use Rattle.chains.specs.Valid.{InRange, InOrder, SortedAfter, ChainSorted}
@@ -46,8 +46,8 @@ module _ (kind minute : List ℕ) where
   unfolding orderedAfter SortedAfter
   after-sorted q [] e = (λ r m. absurd (List·Memᴰ·not-nil m), tt)
   after-sorted q (r ∷ rs) e =
-      let a = b-skip (valuesBad (fieldOf kind r) (fieldOf minute r)) _ _ verdict-not e in
-      let b = b-skip (out q r) _ _ verdict-not (a .1) in
+      let a = b-skip (valuesBad (fieldOf kind r) (fieldOf minute r)) _ _ refused-not-fine e in
+      let b = b-skip (out q r) _ _ refused-not-fine (a .1) in
       let s = after-sorted r rs (b .1) in
       (λ x m. ⊎-elim (λ (z : x ≡ r). rw z (good-values _ _ (a .0))) (λ z. s .0 x z) (List·Memᴰ·cases-cons m), (placed q r (b .0), s .1))
 
@@ -55,7 +55,7 @@ module _ (kind minute : List ℕ) where
   unfolding ordered ChainSorted
   chain-sorted [] e = (λ r m. absurd (List·Memᴰ·not-nil m), tt)
   chain-sorted (r ∷ rs) e =
-      let a = b-skip (valuesBad (fieldOf kind r) (fieldOf minute r)) _ _ verdict-not e in
+      let a = b-skip (valuesBad (fieldOf kind r) (fieldOf minute r)) _ _ refused-not-fine e in
       let s = after-sorted r rs (a .1) in
       (λ x m. ⊎-elim (λ (z : x ≡ r). rw z (good-values _ _ (a .0))) (λ z. s .0 x z) (List·Memᴰ·cases-cons m), s .1)
 

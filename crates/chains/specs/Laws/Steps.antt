@@ -13,10 +13,10 @@ use Rattle.chains.specs.Stages.{StepsIn, EndsIn, ahead}
 use Rattle.chains.specs.Laws.Runs.{runOf}
 
 -- `after` is a run
-pub run-is : (previous next : List ℕ) (r j : ℕ) → runOf (fieldOf previous) (fieldOf next) noRecord r j ≡ after next r j
+pub run-of-after : (previous next : List ℕ) (r j : ℕ) → runOf (fieldOf previous) (fieldOf next) noRecord r j ≡ after next r j
 unfolding after
-run-is previous next r zero = refl
-run-is previous next r (suc j) = ap (fieldOf next) (run-is previous next r j)
+run-of-after previous next r zero = refl
+run-of-after previous next r (suc j) = ap (fieldOf next) (run-of-after previous next r j)
 
 module _ (next : List ℕ) where
   shift : (r j : ℕ) → after next (fieldOf next r) j ≡ after next r (suc j)
@@ -33,8 +33,8 @@ module _ (next : List ℕ) where
   later-steps : (r j : ℕ) → StepsIn next r (suc j) → StepsIn next (fieldOf next r) j
   later-steps r j s i l = rw (shift r i) (s (suc i) (omega arith))
 
-  pub one-more : (r k : ℕ) → StepsIn next r k → fieldOf next (after next r k) < length next → StepsIn next r (suc k)
-  one-more r k s u x y =
+  pub steps-in-suc : (r k : ℕ) → StepsIn next r k → fieldOf next (after next r k) < length next → StepsIn next r (suc k)
+  steps-in-suc r k s u x y =
       lt-elim {X = Unit {0}} (λ _. fieldOf next (after next r x) < length next) x k tt tt (λ a. s x a)
       (λ a. let z : x ≡ k = omega arith in rw z u)
 

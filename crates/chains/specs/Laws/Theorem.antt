@@ -13,8 +13,8 @@ use Rattle.chains.specs.Chains.{fieldOf, noRecord, headAt, days, chainAt
 use Rattle.chains.specs.Shown.{after, Ends, Promised}
 use Rattle.chains.specs.Laws.Runs.{Back, runs-meet, pigeonhole}
 use Rattle.chains.specs.Stages.{Linked, StepsIn, EndsIn, ChainsEnd}
-use Rattle.chains.specs.Laws.Linked.{accepted-linked, head-in, head-not, next-in}
-use Rattle.chains.specs.Laws.Steps.{one-more, walk-reached, reached-walk, walk-steps, run-is}
+use Rattle.chains.specs.Laws.Linked.{accepted-linked, head-bad-false-facts, head-before-false-apart, next-in}
+use Rattle.chains.specs.Laws.Steps.{steps-in-suc, walk-reached, reached-walk, walk-steps, run-of-after}
 use Rattle.prelude.specs.declared.answers.CountAnswer.{CountAnswer}
 
 -- a walk that ends, and at a record with no next
@@ -30,7 +30,7 @@ module _ (t previous next : List ℕ) (g : Linked t previous next) where
 
     in-range : (j : ℕ) → StepsIn next h j → after next h j < length next
     unfolding after
-    in-range zero s = omega (arith, head-in t previous i (g .heads i l) .0, g .equal)
+    in-range zero s = omega (arith, head-bad-false-facts t previous i (g .heads i l) .0, g .equal)
     in-range (suc j) s = s j (omega arith)
 
     good-next : (j : ℕ) → j < length next → StepsIn next h j → nextBad previous next (after next h j) ≡ false
@@ -42,7 +42,7 @@ module _ (t previous next : List ℕ) (g : Linked t previous next) where
         let r = in-range j b in
         let n : fieldOf next (after next h j) ≡ noRecord → ⊥ = λ e. omega (arith, e, s j a, g .most, g .equal) in
         let q = next-in previous next (after next h j) (good-next j (omega arith) b) n in
-        rw (run-is previous next h j) (q .1, λ e. omega (arith, e, r, g .most, g .equal))
+        rw (run-of-after previous next h j) (q .1, λ e. omega (arith, e, r, g .most, g .equal))
 
     -- a walk has ended before step k, or all its steps up to there stay in range
     ended-or : (k : ℕ) → k ≤ length next → Ended next h ⊎ StepsIn next h k
@@ -52,23 +52,23 @@ module _ (t previous next : List ℕ) (g : Linked t previous next) where
         ⊎-elim (λ (e : Ended next h). inl e)
         (λ (s : StepsIn next h k). eq-elim {X = Unit {0}} (λ _. Ended next h ⊎ StepsIn next h (suc k)) (fieldOf next (after next h k)) noRecord tt tt
         (λ e. inl (record { last = e; walks = record { from = in-range 0 (λ x y. absurd (omega arith)); count = k; within = m; steps = s; out = omega (arith, e, g .most, g .equal) } }))
-        (λ n. let v = next-in previous next (after next h k) (good-next k m s) n .0 in inr (one-more next h k s (omega (arith, v, g .equal)))))
+        (λ n. let v = next-in previous next (after next h k) (good-next k m s) n .0 in inr (steps-in-suc next h k s (omega (arith, v, g .equal)))))
         (ended-or k (omega arith))
 
   -- the walks of two entries at a record that both reach: their heads and steps are the same
   met : (i j a b : ℕ) → i < days t → j < days t → a ≤ length next → b ≤ length next → StepsIn next (headAt t i) a → StepsIn next (headAt t j) b → after next (headAt t i) a ≡ after next (headAt t j) b → (headAt t i ≡ headAt t j) × (a ≡ b)
   met i j a b l m x y s u e =
       runs-meet (fieldOf previous) (fieldOf next) noRecord (headAt t i) (headAt t j) a b a b
-      (head-in t previous i (g .heads i l) .1) (head-in t previous j (g .heads j m) .1)
+      (head-bad-false-facts t previous i (g .heads i l) .1) (head-bad-false-facts t previous j (g .heads j m) .1)
       (back i l a x s) (back j m b y u) (omega arith) (omega arith)
-      (run-is previous next (headAt t i) a ∙ e ∙ sym (run-is previous next (headAt t j) b))
+      (run-of-after previous next (headAt t i) a ∙ e ∙ sym (run-of-after previous next (headAt t j) b))
 
   apart : (i j r : ℕ) → i < j → j < days t → List·Memᴰ r (chainAt t next i) → List·Memᴰ r (chainAt t next j) → ⊥
   apart i j r l m p q =
       let x = walk-reached next (length next) (headAt t i) r p in
       let y = walk-reached next (length next) (headAt t j) r q in
       let z = met i j (x .j) (y .j) (omega arith) m (omega (arith, x .short)) (omega (arith, y .short)) (x .steps) (y .steps) (sym (x .is) ∙ y .is) in
-      head-not t (headAt t j) j i (head-in t previous j (g .heads j m) .2) l (z .0)
+      head-before-false-apart t (headAt t j) j i (head-bad-false-facts t previous j (g .heads j m) .2) l (z .0)
 
   ended : (i : ℕ) → i < days t → Ended next (headAt t i)
   ended i l =

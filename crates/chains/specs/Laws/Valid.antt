@@ -8,13 +8,13 @@ use native.Mathlib.Omega.{arith}
 use lib.ListN.{length}
 use Rattle.prelude.specs.Laws.Choice.{is-lt, is-ge, is-eq, is-ne, is-true, is-false, eq-elim, lt-skip, eq-take, eq-skip, b-take}
 use Rattle.prelude.specs.Refusals.{badDayTable, badChain}
-use Rattle.prelude.specs.Laws.Verdicts.{fine-good, good-fine, all-fine, fine-all}
+use Rattle.prelude.specs.Laws.Verdicts.{unless-bad-fine, unless-bad-false, in-turn-fine-each, each-fine-in-turn}
 use Rattle.prelude.specs.declared.refusals.Verdict.{Verdict}
 use Rattle.chains.specs.Chains.{fieldOf, noRecord, entries, days, headAt, dateBefore, entryBad, headBefore, headBad, chainAt, nextBad, linked, ordered, entryVerdict, headVerdict, linksVerdict, orderVerdict, chainsAnswer}
 use Rattle.chains.specs.Stages.{Passed, Linked}
 use Rattle.chains.specs.Valid.{ValidChains}
 use Rattle.chains.specs.Laws.Order.{chain-sorted, sorted-chain}
-use Rattle.chains.specs.Laws.Linked.{accepted-passed, judged-linked, head-in, head-not, next-in}
+use Rattle.chains.specs.Laws.Linked.{accepted-passed, judged-linked, head-bad-false-facts, head-before-false-apart, next-in}
 use Rattle.chains.specs.Laws.Stages.{passed-answer}
 use Rattle.chains.specs.Laws.Walks.{next-none, next-back}
 use Rattle.prelude.specs.declared.answers.CountAnswer.{CountAnswer}
@@ -74,24 +74,24 @@ module _ (t previous next kind minute : List ℕ) where
         last = last .1;
         only = λ i l. good-day t i (good i (omega arith)) l .0;
         dates = λ i l. let e : i + 1 - 1 ≡ i = omega arith in rw e at (good-day t (i + 1) (good (i + 1) (omega arith)) (omega arith) .1 (omega arith));
-        heads = λ i l. let h = head-in t previous i (head i l) in (h .0, h .1);
-        apart = λ i j l m e. head-not t (headAt t j) j i (head-in t previous j (head j m) .2) l e;
+        heads = λ i l. let h = head-bad-false-facts t previous i (head i l) in (h .0, h .1);
+        apart = λ i j l m e. head-before-false-apart t (headAt t j) j i (head-bad-false-facts t previous j (head j m) .2) l e;
         links = λ i r l m n. next-in previous next r (g .nexts i l r m) n;
         values = λ i r l m. chain-sorted kind minute (chainAt t next i) (order i l) .0 r m;
         order = λ i l. chain-sorted kind minute (chainAt t next i) (order i l) .1;
       }
     where
       good : (i : ℕ) → i < entries t → entryBad t i ≡ false
-      good i l = fine-good _ badDayTable i (all-fine (entryVerdict t) (entries t) 0 (p .entry-fine) i (omega arith) (omega arith))
+      good i l = unless-bad-fine _ badDayTable i (in-turn-fine-each (entryVerdict t) (entries t) 0 (p .entry-fine) i (omega arith) (omega arith))
 
       last : (5 * days t + 5 ≤ length t) × (headAt t (days t) ≡ noRecord)
       last = good-last t (days t) (good (days t) (omega (arith, p .some))) (omega (arith, p .some))
 
       head : (i : ℕ) → i < days t → headBad t previous i ≡ false
-      head i l = fine-good _ badChain i (all-fine (headVerdict t previous) (days t) 0 (p .head-fine) i (omega arith) (omega arith))
+      head i l = unless-bad-fine _ badChain i (in-turn-fine-each (headVerdict t previous) (days t) 0 (p .head-fine) i (omega arith) (omega arith))
 
       order : (i : ℕ) → i < days t → ordered kind minute (chainAt t next i) ≡ Verdict.Fine
-      order i l = all-fine (orderVerdict t next kind minute) (days t) 0 (p .order-fine) i (omega arith) (omega arith)
+      order i l = in-turn-fine-each (orderVerdict t next kind minute) (days t) 0 (p .order-fine) i (omega arith) (omega arith)
 
       g : Linked t previous next
       g = judged-linked t previous next kind minute (days t) refl (p .sizes) refl (p .head-fine) refl (p .links-fine)
@@ -101,10 +101,10 @@ module _ (t previous next kind minute : List ℕ) where
       record {
         sizes = v .sizes;
         some = omega (arith, v .whole);
-        entry-fine = fine-all (entryVerdict t) (entries t) 0 (λ i a b. good-fine badDayTable i (entry i (omega arith)));
-        head-fine = fine-all (headVerdict t previous) (days t) 0 (λ i a b. good-fine badChain i (head i (omega arith)));
-        links-fine = fine-all (linksVerdict t previous next) (days t) 0 (λ i a b. good-links previous next (chainAt t next i) (λ r m. next-good previous next r (v .links i r (omega arith) m)));
-        order-fine = fine-all (orderVerdict t next kind minute) (days t) 0 (λ i a b. sorted-chain kind minute (chainAt t next i) (λ r m. v .values i r (omega arith) m) (v .order i (omega arith)));
+        entry-fine = each-fine-in-turn (entryVerdict t) (entries t) 0 (λ i a b. unless-bad-false badDayTable i (entry i (omega arith)));
+        head-fine = each-fine-in-turn (headVerdict t previous) (days t) 0 (λ i a b. unless-bad-false badChain i (head i (omega arith)));
+        links-fine = each-fine-in-turn (linksVerdict t previous next) (days t) 0 (λ i a b. good-links previous next (chainAt t next i) (λ r m. next-good previous next r (v .links i r (omega arith) m)));
+        order-fine = each-fine-in-turn (orderVerdict t next kind minute) (days t) 0 (λ i a b. sorted-chain kind minute (chainAt t next i) (λ r m. v .values i r (omega arith) m) (v .order i (omega arith)));
       }
     where
       rises : (i : ℕ) → i < days t → 0 < i → dateBefore t (i - 1) i ≡ true

@@ -17,22 +17,22 @@ use Rattle.day_steps.specs.Laws.Months.{Later, in-month, in-length, week
 use Rattle.day_steps.specs.Moves.{FactsAt, movedTo}
 
 -- the day of a day's facts
-pub day-at : (n : ℕ) → factsOf n .day .0 ≡ n
+pub facts-of-day-number : (n : ℕ) → factsOf n .day .0 ≡ n
 unfolding factsOf
-day-at n = refl
+facts-of-day-number n = refl
 
-pub day-is : {g : DayFacts} {n : ℕ} → g ≡ factsOf n → g .day .0 ≡ n
-day-is {g} {n} e = ap (λ (x : DayFacts). x .day .0) e ∙ day-at n
+pub day-of-facts : {g : DayFacts} {n : ℕ} → g ≡ factsOf n → g .day .0 ≡ n
+day-of-facts {g} {n} e = ap (λ (x : DayFacts). x .day .0) e ∙ facts-of-day-number n
 
-pub at-day : {g : DayFacts} (n : ℕ) {m : ℕ} → g ≡ factsOf n → m ≤ lastDay → FactsAt g m
-at-day n e h = record { facts = e ∙ ap factsOf (sym (day-is e)); high = h }
+pub facts-at-day : {g : DayFacts} (n : ℕ) {m : ℕ} → g ≡ factsOf n → m ≤ lastDay → FactsAt g m
+facts-at-day n e h = record { facts = e ∙ ap factsOf (sym (day-of-facts e)); high = h }
 
 -- such facts have room in a code, and their day lies in its month
-pub at-known : {f : DayFacts} {n : ℕ} → FactsAt f n → f .day .0 ≤ n → Known f
-at-known {f} {n} a l = let h = a .high in rw (sym (a .facts)) at (facts-known (f .day .0) (omega arith))
+pub facts-at-known : {f : DayFacts} {n : ℕ} → FactsAt f n → f .day .0 ≤ n → Known f
+facts-at-known {f} {n} a l = let h = a .high in rw (sym (a .facts)) at (facts-known (f .day .0) (omega arith))
 
-pub at-inside : {f : DayFacts} {n : ℕ} → FactsAt f n → f .day .0 ≤ n → f .date .day ≤ f .length
-at-inside {f} {n} a l = let h = a .high in rw (sym (a .facts)) at (in-length (f .day .0) (omega arith))
+pub facts-at-day-of-month : {f : DayFacts} {n : ℕ} → FactsAt f n → f .day .0 ≤ n → f .date .day ≤ f .length
+facts-at-day-of-month {f} {n} a l = let h = a .high in rw (sym (a .facts)) at (in-length (f .day .0) (omega arith))
 
 -- k days on in the same month
 abbrev pub onBy : ℕ → DayFacts → DayFacts
@@ -50,10 +50,10 @@ alike n y m d w l = λ i. record { day = record { 0 = n i }; date = record { yea
 pub facts-by : (n k : ℕ) → factsOf n .date .day + k ≤ factsOf n .length → onBy k (factsOf n) ≡ factsOf (n + k)
 facts-by n k h =
     let l : Later (factsOf n) (factsOf (n + k)) k = in-month n k h in
-    alike (ap (λ (m : ℕ). m + k) (day-at n) ∙ sym (day-at (n + k))) (sym (l .year)) (sym (l .month)) (sym (l .day)) (sym (weekday-later n k)) (sym (l .length))
+    alike (ap (λ (m : ℕ). m + k) (facts-of-day-number n) ∙ sym (facts-of-day-number (n + k))) (sym (l .year)) (sym (l .month)) (sym (l .day)) (sym (weekday-later n k)) (sym (l .length))
 
-pub on-by : {f : DayFacts} (k : ℕ) → f ≡ factsOf (f .day .0) → f .date .day + k ≤ f .length → onBy k f ≡ factsOf (f .day .0 + k)
-on-by {f} k e h =
+pub on-by-facts : {f : DayFacts} (k : ℕ) → f ≡ factsOf (f .day .0) → f .date .day + k ≤ f .length → onBy k f ≡ factsOf (f .day .0 + k)
+on-by-facts {f} k e h =
     let d = ap (λ (x : DayFacts). x .date .day) e in
     let l = ap (λ (x : DayFacts). x .length) e in
     ap (onBy k) e ∙ facts-by (f .day .0) k (omega arith)
@@ -76,9 +76,9 @@ pub record Reaches (f : DayFacts) (code : ℕ) (g : DayFacts) : Type 0 where
 reaches-day : {f g : DayFacts} {d : Date} {n : ℕ} → RealDate d → dayNumber d ≡ n → f .day .0 < n → g ≡ factsOf n → Reaches f (dateCode d) g
 reaches-day {f} {g} {d} {n} v e l q =
     let b = number-bound v in
-    let e′ : g .day .0 ≡ n = day-is q in
+    let e′ : g .day .0 ≡ n = day-of-facts q in
     record {
-      at = at-day n q (omega arith);
+      at = facts-at-day n q (omega arith);
       low = omega arith;
       before = λ m h i. rw (ap dateCode (date-on v e)) at (code-less m n (omega arith) (omega arith));
     }

@@ -29,16 +29,16 @@ module _ {A : Type 0} where
       rw (take-splice-before d (at + length a) b at (omega arith) (omega arith), drop-at (take (at + length a) d) (b ++ drop (at + length a + length b) d) (at + length a) e, length-append a b, f)
       (simp append-assoc)
 
-  pub back-start : {o : List A} {at pos : ℕ} {whole : List A} → at + length whole ≤ length o → pos ≡ at + length whole → Backed o at whole o pos whole
-  back-start {o} {at} {pos} {whole} h e =
+  pub backed-none : {o : List A} {at pos : ℕ} {whole : List A} → at + length whole ≤ length o → pos ≡ at + length whole → Backed o at whole o pos whole
+  backed-none {o} {at} {pos} {whole} h e =
       record { behind = []; parts = sym (append-nil whole); put = sym (splice-nil o pos); here = e; room = omega arith; long = refl }
 
 module _ {A : Type 0} {o₀ : List A} {at : ℕ} {whole : List A} where
   -- the piece xs is written before what stands there
-  pub back-grow :
+  pub backed-before :
       {o o′ : List A} {pos pos′ : ℕ} {front : List A} (xs : List A)
       → Backed o₀ at whole o pos (front ++ xs) → pos ≡ pos′ + length xs → o′ ≡ splice o pos′ xs → Backed o₀ at whole o′ pos′ front
-  back-grow {o} {o′} {pos} {pos′} {front} xs g ep eo =
+  backed-before {o} {o′} {pos} {pos′} {front} xs g ep eo =
       let b = g .behind in
       let l = length-append front xs in
       let m = length-append xs b in
@@ -53,7 +53,7 @@ module _ {A : Type 0} {o₀ : List A} {at : ℕ} {whole : List A} where
       }
 
   -- all is written
-  pub back-finish : {o : List A} {pos : ℕ} → Backed o₀ at whole o pos [] → o ≡ splice o₀ at whole
-  back-finish {o} {pos} g =
+  pub backed-all : {o : List A} {pos : ℕ} → Backed o₀ at whole o pos [] → o ≡ splice o₀ at whole
+  backed-all {o} {pos} g =
       let e : pos ≡ at = omega arith in
       g .put ∙ rw (e, ← g .parts)

@@ -36,18 +36,18 @@ use Rattle.export.specs.Passes.{someDay, CountedBook, Sound, marked, kep
 
 -- some day of a span passes, or none
 module _ (p : ℕ → Bool) where
-  pub some-yes : (n k : ℕ) → k < n → p k ≡ true → someDay p n ≡ true
+  pub some-day-true : (n k : ℕ) → k < n → p k ≡ true → someDay p n ≡ true
   unfolding someDay
-  some-yes zero k h e = absurd (omega arith)
-  some-yes (suc n) k h e =
+  some-day-true zero k h e = absurd (omega arith)
+  some-day-true (suc n) k h e =
       bool-cases (p n) (λ t. is-true t _ _)
-      (λ t. is-false t _ _ ∙ lt-elim {X = Unit {0}} (λ _. someDay p n ≡ true) k n tt tt (λ l. some-yes n k l e)
+      (λ t. is-false t _ _ ∙ lt-elim {X = Unit {0}} (λ _. someDay p n ≡ true) k n tt tt (λ l. some-day-true n k l e)
       (λ l. let z : k ≡ n = omega arith in absurd (true≢false (sym (rw z at e) ∙ t))))
 
-  pub some-no : (n : ℕ) → ((k : ℕ) → k < n → p k ≡ false) → someDay p n ≡ false
+  pub some-day-false : (n : ℕ) → ((k : ℕ) → k < n → p k ≡ false) → someDay p n ≡ false
   unfolding someDay
-  some-no zero h = refl
-  some-no (suc n) h = is-false (h n (omega arith)) _ _ ∙ some-no n (λ k l. h k (omega arith))
+  some-day-false zero h = refl
+  some-day-false (suc n) h = is-false (h n (omega arith)) _ _ ∙ some-day-false n (λ k l. h k (omega arith))
 
 -- a record that the walk judged fine
 pub sound-at : (f : List ℕ) (at : ℕ) → length f ≤ mostBookBytes → RecordAt f at → Sound f at
@@ -112,7 +112,7 @@ pub kept-page : (f : List ℕ) (mark : ℕ → Numbered → Bool) (n k : ℕ) �
 unfolding pageOf
 kept-page f mark n k l =
     keep-sort startOf (mark k) (keep (keptIn mark n) (numbered f))
-    ∙ ap (sort startOf) (keep-keep (mark k) (keptIn mark n) (numbered f) (λ x h. some-yes (λ j. mark j x) n k l h))
+    ∙ ap (sort startOf) (keep-keep (mark k) (keptIn mark n) (numbered f) (λ x h. some-day-true (λ j. mark j x) n k l h))
 
 -- what a sum of weights holds
 weights : (f : List ℕ) (xs : List Numbered) → total (λ x. sumOf 1 (bit (recordTimes x .alarm)) (sizeOf f x)) xs ≡ sumOf (length xs) (total (λ x. bit (recordTimes x .alarm)) xs) (total (sizeOf f) xs)

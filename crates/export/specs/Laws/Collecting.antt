@@ -20,13 +20,13 @@ use Rattle.book.specs.Settings.{firstRecord}
 use Rattle.occurrences.specs.Next.{Next}
 use Rattle.pages.specs.Pages.{Numbered, numbered, recordTimes}
 use Rattle.pages.specs.Codes.{code}
-use Rattle.pages.specs.Laws.Codes.{codes-push, none-left}
-use Rattle.pages.specs.Laws.Pages.{numberedAt, numbered-first, Turn, record-turn, turn-yes, turn-no, turn-end}
+use Rattle.pages.specs.Laws.Codes.{codes-push, append-nil-whole}
+use Rattle.pages.specs.Laws.Pages.{numberedAt, numbered-first, Turn, numbered-cursor, keep-numbered-yes, keep-numbered-no, keep-numbered-end}
 use Rattle.pages.specs.Invariants.{recordAt}
 use Rattle.calendar_writer.specs.Scatter.{Added}
 use Rattle.calendar_writer.specs.Sums.{mostWeight}
 use Rattle.export.specs.Passes.{AtMost, CountedBook, Sound, keptIn, weighs, Weighed}
-use Rattle.export.specs.Laws.Books.{some-yes, some-no, sound-at}
+use Rattle.export.specs.Laws.Books.{some-day-true, some-day-false, sound-at}
 
 -- the pass before record n, which stands at a place
 pub record Collecting (f : List ℕ) (mark : ℕ → Numbered → Bool) (days : List ℕ) (n at count : ℕ) (codes sums : List ℕ) : Type 0 where
@@ -67,7 +67,7 @@ module _ {f : List ℕ} {mark : ℕ → Numbered → Bool} {days : List ℕ} {n 
     collect-sound = sound-at f at (b .size) (ahead .entry)
 
     turned : Turn f n at
-    turned = record-turn f n at (g .cursor) (omega (arith, b .count))
+    turned = numbered-cursor f n at (g .cursor) (omega (arith, b .count))
 
     -- p is the test that the code goes by: on the days of the span it is the record's mark
     module _ {p : ℕ → Bool} (same : (k : ℕ) → k < length days → p k ≡ mark k (recordAt f n at)) {next from : ℕ} (step : next ≡ nextPlace f at) (first : Next p 0 (length days) from) where
@@ -84,8 +84,8 @@ module _ {f : List ℕ} {mark : ℕ → Numbered → Bool} {days : List ℕ} {n 
             few = omega (arith, g .few);
             long = g .long;
             below = record { each = λ k i. omega (arith, g .below .each k i) };
-            codes-so = g .codes-so ∙ ap (λ (xs : List Numbered). take count codes ++ map code xs) (turn-no f n at turned (keptIn mark (length days)) (some-no (λ k. mark k x) (length days) no));
-            sums-so = λ k l. g .sums-so k l ∙ ap (λ (xs : List Numbered). getD sums k 0 + total weighs xs) (turn-no f n at turned (mark k) (no k l));
+            codes-so = g .codes-so ∙ ap (λ (xs : List Numbered). take count codes ++ map code xs) (keep-numbered-no f n at turned (keptIn mark (length days)) (some-day-false (λ k. mark k x) (length days) no));
+            sums-so = λ k l. g .sums-so k l ∙ ap (λ (xs : List Numbered). getD sums k 0 + total weighs xs) (keep-numbered-no f n at turned (mark k) (no k l));
           })
 
       -- it shows on some: its code is stored, its weight added
@@ -93,7 +93,7 @@ module _ {f : List ℕ} {mark : ℕ → Numbered → Bool} {days : List ℕ} {n 
           {v : ℕ} {sums′ : List ℕ} → from < length days → count < length codes → v ≡ code x
           → Added p (weighs x) (length days) sums sums′ → Collecting f mark days (n + 1) next (count + 1) (set codes count v) sums′
       collect-take {v} {sums′} hit room e added =
-          let yes : keptIn mark (length days) x ≡ true = some-yes (λ k. mark k x) (length days) from hit (sym (same from hit) ∙ first .hit hit) in
+          let yes : keptIn mark (length days) x ≡ true = some-day-true (λ k. mark k x) (length days) from hit (sym (same from hit) ∙ first .hit hit) in
           let w = weigh-most f n at collect-sound in
           rw (add-one n, step)
           (record {
@@ -104,22 +104,22 @@ module _ {f : List ℕ} {mark : ℕ → Numbered → Bool} {days : List ℕ} {n 
             codes-so =
                 codes-push codes count v _ _ room
                 (g .codes-so
-                ∙ ap (λ (xs : List Numbered). take count codes ++ map code xs) (turn-yes f n at turned (keptIn mark (length days)) yes)
+                ∙ ap (λ (xs : List Numbered). take count codes ++ map code xs) (keep-numbered-yes f n at turned (keptIn mark (length days)) yes)
                 ∙ ap (λ (y : ℕ). take count codes ++ (y ∷ map code (keep (keptIn mark (length days)) (numberedAt f (suc n))))) (sym e));
             sums-so =
                 λ k l.
                 let before = g .sums-so k l in
                 let now-so = added .behind k l in
                 bool-cases (p k)
-                (λ t. omega (arith, before, now-so, is-true t (weighs x) 0, ap (total weighs) (turn-yes f n at turned (mark k) (sym (same k l) ∙ t)), total-cons weighs x (keep (mark k) (numberedAt f (suc n)))))
-                (λ t. omega (arith, before, now-so, is-false t (weighs x) 0, ap (total weighs) (turn-no f n at turned (mark k) (sym (same k l) ∙ t))));
+                (λ t. omega (arith, before, now-so, is-true t (weighs x) 0, ap (total weighs) (keep-numbered-yes f n at turned (mark k) (sym (same k l) ∙ t)), total-cons weighs x (keep (mark k) (numberedAt f (suc n)))))
+                (λ t. omega (arith, before, now-so, is-false t (weighs x) 0, ap (total weighs) (keep-numbered-no f n at turned (mark k) (sym (same k l) ∙ t))));
           })
 
   pub collect-end : {records : ℕ} → CountedBook f records → records ≤ n → (take count codes ≡ map code (keep (keptIn mark (length days)) (numbered f))) × Weighed f mark days sums
   collect-end b past = (
-    none-left _ _ (g .codes-so) (ap (map code) (turn-end f n (keptIn mark (length days)) (omega (arith, b .count)))),
+    append-nil-whole _ _ (g .codes-so) (ap (map code) (keep-numbered-end f n (keptIn mark (length days)) (omega (arith, b .count)))),
     record {
       long = g .long;
-      each = λ k l. sym (g .sums-so k l ∙ ap (λ (xs : List Numbered). getD sums k 0 + total weighs xs) (turn-end f n (mark k) (omega (arith, b .count))) ∙ rw (total-nil weighs) (add-zero _));
+      each = λ k l. sym (g .sums-so k l ∙ ap (λ (xs : List Numbered). getD sums k 0 + total weighs xs) (keep-numbered-end f n (mark k) (omega (arith, b .count))) ∙ rw (total-nil weighs) (add-zero _));
     },
   )

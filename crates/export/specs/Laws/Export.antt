@@ -18,7 +18,7 @@ use Rattle.days.specs.Answers.{factsAnswer}
 use Rattle.days.specs.Laws.Answers.{facts-given, facts-in}
 use Rattle.days.specs.declared.answers.FactsAnswer.{FactsAnswer}
 use Rattle.days.specs.declared.types.DayFacts.{DayFacts}
-use Rattle.day_steps.specs.Laws.Moves.{day-at}
+use Rattle.day_steps.specs.Laws.Moves.{facts-of-day-number}
 use Rattle.day_steps.specs.Codes.{Spanned}
 use Rattle.book.specs.Books.{bookOf, mostRecords}
 use Rattle.book.specs.Settings.{settingsOf}
@@ -102,15 +102,15 @@ module _ {f : List ℕ} {shows : ℕ → Numbered → Bool} {first : ℕ} {mark 
       record { length-is = ap (λ (x : Measure). x .length) q; few = ap (λ (x : Measure). x .descriptors) q; past-is = ap (λ (x : Measure). x .«past_last_block») q }
 
 -- the front of a list of zeros
-pub front-long : (m n : ℕ) → n ≤ m → length (take n (zeros m)) ≡ n
-front-long m n h = length-take-le n (zeros m) (rw (length-replicate {A = ℕ} m 0) h)
+pub length-take-zeros : (m n : ℕ) → n ≤ m → length (take n (zeros m)) ≡ n
+length-take-zeros m n h = length-take-le n (zeros m) (rw (length-replicate {A = ℕ} m 0) h)
 
-pub front-below : (m n : ℕ) → n ≤ m → AtMost 0 (take n (zeros m))
-front-below m n h =
+pub take-zeros-at-most : (m n : ℕ) → n ≤ m → AtMost 0 (take n (zeros m))
+take-zeros-at-most m n h =
     record {
       each =
           λ k l.
-          let i : k < n = omega (arith, front-long m n h) in
+          let i : k < n = omega (arith, length-take-zeros m n h) in
           omega (arith, getD-take n (zeros m) k 0 i, getD-replicate {A = ℕ} m k 0 0 (omega arith));
     }
 
@@ -128,32 +128,32 @@ pub record First (first : ℕ) (g : DayFacts) : Type 0 where
 pub first-facts : (first : ℕ) {g : DayFacts} → factsAnswer (record { 0 = first }) ≡ FactsAnswer.Facts g → First first g
 first-facts first {g} e =
     let q : factsOf first ≡ g = facts-given e .1 in
-    let d : g .day .0 ≡ first = ap (λ (x : DayFacts). x .day .0) (sym q) ∙ day-at first in
+    let d : g .day .0 ≡ first = ap (λ (x : DayFacts). x .day .0) (sym q) ∙ facts-of-day-number first in
     record { day = d; facts = sym q ∙ ap factsOf (sym d) }
 
-pub first-not : (first : ℕ) {r : Refusal} → first ≤ lastDay → factsAnswer (record { 0 = first }) ≡ FactsAnswer.Refused r → ⊥
-first-not first h e = let q = sym (facts-in (record { 0 = first }) h) ∙ e in constructors-differ cc
+pub first-day-not-refused : (first : ℕ) {r : Refusal} → first ≤ lastDay → factsAnswer (record { 0 = first }) ≡ FactsAnswer.Refused r → ⊥
+first-day-not-refused first h e = let q = sym (facts-in (record { 0 = first }) h) ∙ e in constructors-differ cc
 
 -- a span's answer and buffer, by the measure
 module _ (shows : ℕ → Numbered → Bool) (f : List ℕ) (first count : ℕ) where
-  pub span-is : (room : ℕ) {size : ℕ} {past : Bool} {r : CountAnswer} → past ≡ pastLastBlock (exportDays shows f first count) → size ≡ length (exportFile shows f first count) → r ≡ sized room past size → r ≡ spanAnswer shows f first count room
+  pub span-answer-sized : (room : ℕ) {size : ℕ} {past : Bool} {r : CountAnswer} → past ≡ pastLastBlock (exportDays shows f first count) → size ≡ length (exportFile shows f first count) → r ≡ sized room past size → r ≡ spanAnswer shows f first count room
   unfolding spanAnswer
-  span-is room p s e = e ∙ rw (p, s)
+  span-answer-sized room p s e = e ∙ rw (p, s)
 
-  pub span-left : (out : List ℕ) {left : List ℕ} {r : CountAnswer} → r ≡ spanAnswer shows f first count (length out) → left ≡ leavesFile (exportFile shows f first count) out r → left ≡ spanLeaves shows f first count out
+  pub span-leaves-from : (out : List ℕ) {left : List ℕ} {r : CountAnswer} → r ≡ spanAnswer shows f first count (length out) → left ≡ leavesFile (exportFile shows f first count) out r → left ≡ spanLeaves shows f first count out
   unfolding spanLeaves
-  span-left out e l = l ∙ ap (leavesFile (exportFile shows f first count) out) e
+  span-leaves-from out e l = l ∙ ap (leavesFile (exportFile shows f first count) out) e
 
-  pub left-span : (out : List ℕ) {left : List ℕ} {r : CountAnswer} → r ≡ spanAnswer shows f first count (length out) → left ≡ spanLeaves shows f first count out → left ≡ leavesFile (exportFile shows f first count) out r
+  pub span-leaves-leaves-file : (out : List ℕ) {left : List ℕ} {r : CountAnswer} → r ≡ spanAnswer shows f first count (length out) → left ≡ spanLeaves shows f first count out → left ≡ leavesFile (exportFile shows f first count) out r
   unfolding spanLeaves
-  left-span out e l = l ∙ ap (leavesFile (exportFile shows f first count) out) (sym e)
+  span-leaves-leaves-file out e l = l ∙ ap (leavesFile (exportFile shows f first count) out) (sym e)
 
 -- the answer and the buffer, once the book's own answer is known
 module _ (shows : ℕ → Numbered → Bool) (f : List ℕ) (first count : ℕ) (out : List ℕ) where
-  pub answer-is : {a : BookAnswer} {r : CountAnswer} → bookOf f ≡ a → r ≡ exportFrom shows f first count (length out) a → r ≡ exportAnswer shows f first count (length out)
+  pub export-answer-from : {a : BookAnswer} {r : CountAnswer} → bookOf f ≡ a → r ≡ exportFrom shows f first count (length out) a → r ≡ exportAnswer shows f first count (length out)
   unfolding exportAnswer
-  answer-is q e = e ∙ ap (exportFrom shows f first count (length out)) (sym q)
+  export-answer-from q e = e ∙ ap (exportFrom shows f first count (length out)) (sym q)
 
-  pub left-is : {r : CountAnswer} {left : List ℕ} → r ≡ exportAnswer shows f first count (length out) → left ≡ leavesFile (exportFile shows f first count) out r → left ≡ exportLeaves shows f first count out
+  pub export-leaves-from : {r : CountAnswer} {left : List ℕ} → r ≡ exportAnswer shows f first count (length out) → left ≡ leavesFile (exportFile shows f first count) out r → left ≡ exportLeaves shows f first count out
   unfolding exportLeaves
-  left-is e l = l ∙ ap (leavesFile (exportFile shows f first count) out) e
+  export-leaves-from e l = l ∙ ap (leavesFile (exportFile shows f first count) out) e

@@ -27,13 +27,13 @@ use Rattle.calendar_writer.specs.Laws.Spans.{days-few}
 use Rattle.calendar_writer.specs.Sums.{Sums, sumTable, rows, unitsTo, noneYet}
 use Rattle.calendar_writer.specs.Scatter.{Added, Roomy, scatter, FilledBlocks}
 use Rattle.calendar_writer.specs.Laws.Rows.{length-more, Fits, length-rows, fits-none}
-use Rattle.calendar_writer.specs.Laws.Filling.{fill-one, filled-long, fill-room, filled-same}
+use Rattle.calendar_writer.specs.Laws.Filling.{filled-append-appointment, filled-long, fill-room, filled-same}
 use Rattle.calendar_writer.specs.Laws.Sums.{sums-at, table-sums, rows-sums}
 use Rattle.calendar_writer.specs.Laws.Pieces.{file-pieces}
 use Rattle.export.specs.Export.{appointmentOf, appointmentsFor}
 use Rattle.export.specs.Passes.{Sound, keptIn, soFar}
 use Rattle.export.specs.Laws.Books.{Whole, book-whole, weighed-sum}
-use Rattle.export.specs.Laws.Steps.{so-none, so-more, so-all, so-fits}
+use Rattle.export.specs.Laws.Steps.{so-far-zero, so-far-suc, so-far-all, so-far-fits}
 use Rattle.export.specs.Invariants.{ReadyToFill, Gathered}
 
 pub gathered-ordered :
@@ -83,7 +83,7 @@ module _ {f : List ℕ} {shows : ℕ → Numbered → Bool} {first : ℕ} {mark 
     so n = soFar f interval mark codes n
 
     fits : (n : ℕ) → Fits (so n) 0 sums
-    fits n = so-fits f interval mark codes days (r .counted) (r .kept) (r .marks) (r .good) (r .weighed) n
+    fits n = so-far-fits f interval mark codes days (r .counted) (r .kept) (r .marks) (r .good) (r .weighed) n
 
     -- how long the blocks are
     pub ready-long : (n : ℕ) → length (rows (soFar f interval mark codes n) first 0 sums) ≡ 64 * unitsTo (length sums) sums
@@ -94,8 +94,8 @@ module _ {f : List ℕ} {shows : ℕ → Numbered → Bool} {first : ℕ} {mark 
 
     module _ {o : List ℕ} {at : ℕ} (inside : at + 64 * unitsTo (length sums) sums ≤ length o) where
       -- before the first record
-      pub ready-start : {places out : List ℕ} → FilledBlocks o at first sums noneYet places out → FilledBlocks o at first sums (soFar f interval mark codes 0) places out
-      ready-start g = filled-same (so 0) (λ i l. sym (so-none f interval mark codes i)) g
+      pub filled-so-far-zero : {places out : List ℕ} → FilledBlocks o at first sums noneYet places out → FilledBlocks o at first sums (soFar f interval mark codes 0) places out
+      filled-so-far-zero g = filled-same (so 0) (λ i l. sym (so-far-zero f interval mark codes i)) g
 
       module _ {n : ℕ} {places out : List ℕ} (l : n < length codes) (g : FilledBlocks o at first sums (soFar f interval mark codes n) places out) where
         abbrev x : Numbered
@@ -110,21 +110,21 @@ module _ {f : List ℕ} {shows : ℕ → Numbered → Bool} {first : ℕ} {mark 
             record {
               each =
                   λ k i t.
-                  let e : so (n + 1) k ≡ so n k ++ (a ∷ []) = so-more f interval mark codes n k l ∙ is-true t _ _ in
+                  let e : so (n + 1) k ≡ so n k ++ (a ∷ []) = so-far-suc f interval mark codes n k l ∙ is-true t _ _ in
                   let q : k < length sums = omega (arith, r .weighed .long) in
                   let m = rw (zero-add k) at (fits (n + 1) .each k q) in
                   fill-room inside g (length (appointmentBytes a)) (fits n) q (omega (arith, length-appointment a)) (omega (arith, m, length-more (so n k) a, ap (λ (al : List Appointment). length (appointmentsBytes al)) e));
             }
 
         -- and then the next one's turn
-        pub ready-next :
+        pub filled-so-far-suc :
             {places′ out′ : List ℕ}
             → Added (λ k. mark k (decode f (getD codes n 0))) (length (appointmentBytes (appointmentOf f interval (decode f (getD codes n 0))))) (length days) places places′
             → out′ ≡ scatter (length days) (λ k. mark k (decode f (getD codes n 0))) (appointmentBytes (appointmentOf f interval (decode f (getD codes n 0)))) places 0 out
             → FilledBlocks o at first sums (soFar f interval mark codes (n + 1)) places′ out′
-        ready-next {places′} {out′} added e =
+        filled-so-far-suc {places′} {out′} added e =
             let q = r .weighed .long in
-            rw (e, ← q) (fill-one inside g (λ k. mark k x) a (so (n + 1)) (fits n) (fits (n + 1)) (λ i h. so-more f interval mark codes n i l) (rw q added))
+            rw (e, ← q) (filled-append-appointment inside g (λ k. mark k x) a (so (n + 1)) (fits n) (fits (n + 1)) (λ i h. so-far-suc f interval mark codes n i l) (rw q added))
 
       pub ready-whole : (n : ℕ) {places out : List ℕ} → FilledBlocks o at first sums (soFar f interval mark codes n) places out → length out ≡ length o
       ready-whole n g = filled-long inside g (fits n)
@@ -134,7 +134,7 @@ module _ {f : List ℕ} {shows : ℕ → Numbered → Bool} {first : ℕ} {mark 
     ready-sums = sums-at _ first sums (λ k l. weighed-sum (r .marks) (r .counted) (r .good) interval (r .weighed) k (omega (arith, r .weighed .long)))
 
     pub ready-all : (k : ℕ) → k < length days → soFar f interval mark codes (length codes) k ≡ appointmentsFor shows f interval (first + k)
-    ready-all k l = so-all f interval mark codes days (r .counted) (r .kept) (r .marks) k l
+    ready-all k l = so-far-all f interval mark codes days (r .counted) (r .kept) (r .marks) k l
 
   -- the file, piece by piece
   module _ (s : CalendarSettings) where

@@ -24,7 +24,7 @@ use Rattle.book.specs.declared.types.Book.{Book}
 use Rattle.book.specs.declared.types.BookAnswer.{BookAnswer}
 use Rattle.falls.specs.Times.{timesOf}
 use Rattle.pages.specs.Pages.{Numbered}
-use Rattle.pages.specs.Laws.Pages.{numberedAt, numbered-first, numbered-end, record-turn}
+use Rattle.pages.specs.Laws.Pages.{numberedAt, numbered-first, numbered-end, numbered-cursor}
 use Rattle.pages.specs.Invariants.{recordAt}
 use Rattle.export.specs.Export.{recordText}
 use Rattle.export.specs.Invariants.{GoodRecord, sizeOf, GoodBook}
@@ -78,7 +78,7 @@ ahead-good f zero n at e c =
 ahead-good f (suc k) n at e c =
     let a : Ahead f n at = cursor-ahead f n at c (omega arith) in
     let t : Taken f n at = taken f n at (a .entry) in
-    let more : numberedAt f n ≡ recordAt f n at ∷ numberedAt f (suc n) = record-turn f n at c (omega arith) .more in
+    let more : numberedAt f n ≡ recordAt f n at ∷ numberedAt f (suc n) = numbered-cursor f n at c (omega arith) .more in
     let i : GoodAhead f (suc n) (nextPlace f at) = ahead-good f k (suc n) (nextPlace f at) (omega arith) (a .next) in
     record {
       each = λ x m. ⊎-elim (λ (q : x ≡ recordAt f n at). rw q (t .good)) (i .each x) (List·Memᴰ·cases-cons (rw more at m));

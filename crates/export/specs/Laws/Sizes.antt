@@ -15,7 +15,7 @@ use Rattle.calendar.specs.Laws.File.{length-block}
 use Rattle.calendar.specs.declared.types.CalendarSettings.{CalendarSettings}
 use Rattle.calendar_writer.specs.DayLists.{addDay, daysWith, pastLastBlockFrom, pastLastBlock}
 use Rattle.calendar_writer.specs.Laws.Measure.{unitsOf, file-units}
-use Rattle.calendar_writer.specs.Laws.Spans.{before-none, before-some, days-none, days-next}
+use Rattle.calendar_writer.specs.Laws.Spans.{add-day-nil, add-day-some, days-none, days-next}
 use Rattle.export.specs.Demand.{Showing, shown, lastStart, busyDays, blockUnits, firstStart, blockStart, fileSize, StartsLate}
 use Rattle.export.specs.Laws.Appointments.{bytesOf, length-appointments}
 
@@ -67,13 +67,13 @@ module _ (al : ℕ → List Appointment) (list : ℕ → List Showing) (same : (
   same-units d = omega (arith, length-block (dayAt d), length-appointments (al d), same-bytes d)
 
   take-day : (k d : ℕ) → 0 < length (list d) → daysWith al (suc k) d ≡ dayAt d ∷ daysWith al k (suc d)
-  take-day k d h = days-next al k d ∙ before-some d _ (al d) (omega (arith, same-length d))
+  take-day k d h = days-next al k d ∙ add-day-some d _ (al d) (omega (arith, same-length d))
 
   skip-day : (k d : ℕ) → length (list d) ≤ 0 → daysWith al (suc k) d ≡ daysWith al k (suc d)
   skip-day k d h =
       days-next al k d
       ∙ ap (λ (xs : List Appointment). addDay d xs (daysWith al k (suc d))) (no-appointments (al d) (omega (arith, same-length d)))
-      ∙ before-none d _
+      ∙ add-day-nil d _
 
   -- the days with appointments are those that list something
   days-busy : (k d : ℕ) → daysWith al k d ≡ map dayAt (busyDays list d k)

@@ -29,9 +29,9 @@ module _ (f : List ℕ) (interval : ℕ) (mark : ℕ → Numbered → Bool) (cod
   some n k = soFar f interval mark codes n k
 
   -- at first
-  pub so-none : (k : ℕ) → soFar f interval mark codes 0 k ≡ []
+  pub so-far-zero : (k : ℕ) → soFar f interval mark codes 0 k ≡ []
   unfolding soFar
-  so-none k = rw (keep-nil (mark k))
+  so-far-zero k = rw (keep-nil (mark k))
 
   keep-snoc : (p : Numbered → Bool) (xs : List Numbered) (x : Numbered) → map (appointmentOf f interval) (keep p (xs ++ (x ∷ []))) ≡ ifB (p x) (map (appointmentOf f interval) (keep p xs) ++ (appointmentOf f interval x ∷ [])) (map (appointmentOf f interval) (keep p xs))
   keep-snoc p xs x =
@@ -41,9 +41,9 @@ module _ (f : List ℕ) (interval : ℕ) (mark : ℕ → Numbered → Bool) (cod
       (λ t. rw (keep-no p x [] t, keep-nil p) (append-nil _ ∙ sym (is-false t _ _))))
 
   -- one record more
-  pub so-more : (n k : ℕ) → n < length codes → soFar f interval mark codes (n + 1) k ≡ ifB (mark k (decode f (getD codes n 0))) (soFar f interval mark codes n k ++ (appointmentOf f interval (decode f (getD codes n 0)) ∷ [])) (soFar f interval mark codes n k)
+  pub so-far-suc : (n k : ℕ) → n < length codes → soFar f interval mark codes (n + 1) k ≡ ifB (mark k (decode f (getD codes n 0))) (soFar f interval mark codes n k ++ (appointmentOf f interval (decode f (getD codes n 0)) ∷ [])) (soFar f interval mark codes n k)
   unfolding soFar
-  so-more n k l =
+  so-far-suc n k l =
       rw (add-one n, take-suc codes n 0 l, map-append (decode f) (take n codes) (getD codes n 0 ∷ []))
       (keep-snoc (mark k) (map (decode f) (take n codes)) (decode f (getD codes n 0)))
 
@@ -70,15 +70,15 @@ module _ (f : List ℕ) (interval : ℕ) (mark : ℕ → Numbered → Bool) (cod
         ∙ ap (map (appointmentOf f interval)) (kept-page f mark (length days) k l)
 
     module _ {shows : ℕ → Numbered → Bool} {first : ℕ} (marks : MarksShown f shows first mark days) where
-      pub so-all : (k : ℕ) → k < length days → soFar f interval mark codes (length codes) k ≡ appointmentsFor shows f interval (first + k)
+      pub so-far-all : (k : ℕ) → k < length days → soFar f interval mark codes (length codes) k ≡ appointmentsFor shows f interval (first + k)
       unfolding appointmentsFor
-      so-all k l = so-page k l ∙ ap (map (appointmentOf f interval)) (same-page marks k l)
+      so-far-all k l = so-page k l ∙ ap (map (appointmentOf f interval)) (same-page marks k l)
 
-      pub so-fits : GoodBook f → {sums : List ℕ} → Weighed f mark days sums → (m : ℕ) → Fits (soFar f interval mark codes m) 0 sums
-      so-fits good {sums} w m =
+      pub so-far-fits : GoodBook f → {sums : List ℕ} → Weighed f mark days sums → (m : ℕ) → Fits (soFar f interval mark codes m) 0 sums
+      so-far-fits good {sums} w m =
           record {
             each =
                 λ k l.
                 let s : Sum (getD sums k 0) (appointmentsFor shows f interval (first + k)) = weighed-sum marks b good interval w k (omega (arith, w .long)) in
-                rw (zero-add k) (omega (arith, so-most m k, s .bytes, ap (λ (al : List Appointment). length (appointmentsBytes al)) (so-all k (omega (arith, w .long)))));
+                rw (zero-add k) (omega (arith, so-most m k, s .bytes, ap (λ (al : List Appointment). length (appointmentsBytes al)) (so-far-all k (omega (arith, w .long)))));
           }

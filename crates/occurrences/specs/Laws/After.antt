@@ -13,7 +13,7 @@ use Rattle.day_steps.specs.Laws.Months.{week-same}
 use Rattle.falls.specs.declared.types.ShortMonth.{ShortMonth}
 use Rattle.occurrences.specs.Rules.{onDate, inDates, ruleShows, waitFor, gapOf, longestWait}
 use Rattle.occurrences.specs.Laws.Rules.{on-weekly, shows-on, shows-both}
-use Rattle.occurrences.specs.Laws.Waits.{shows-out, not-yet, no-more, spanned-less, spanned-not}
+use Rattle.occurrences.specs.Laws.Waits.{shows-out, in-dates-before-first, in-dates-after-last, spanned-less, spanned-not}
 use Rattle.occurrences.specs.Laws.Gaps.{months-apart}
 use Rattle.occurrences.specs.Next.{Next, DatesAhead}
 use Rattle.occurrences.specs.Laws.Next.{next-hit, next-end, next-later}
@@ -39,7 +39,7 @@ module _ {first : ℕ} {days : List ℕ} (s : Spanned first days) {date : ℕ} w
 
 -- before the first date
 pub next-ahead : {days : List ℕ} (c : ShortMonth) (r : Rule) {from n : ℕ} → DatesAhead days (r .first) from → Next (λ k. ruleShows c r (getD days k 0)) from (length days) n → Next (λ k. ruleShows c r (getD days k 0)) 0 (length days) n
-next-ahead {days} c r a = next-later (omega arith) (λ k _ h _. shows-out c r (getD days k 0) (not-yet r (getD days k 0) (a .early k h)))
+next-ahead {days} c r a = next-later (omega arith) (λ k _ h _. shows-out c r (getD days k 0) (in-dates-before-first r (getD days k 0) (a .early k h)))
 
 -- a gap is a day or more, and a year at most
 pub record Gap (n : ℕ) : Type 0 where
@@ -83,13 +83,13 @@ module _ {first : ℕ} {days : List ℕ} (s : Spanned first days) (c : ShortMont
 
   past : (j k : ℕ) → j ≤ k → k < length days → r .last < dateIn (getD days j 0) → shown k ≡ false
   past j k l inside h =
-      shows-out c r _ (no-more r _ (lt-elim {X = Unit {0}} (λ _. r .last < dateIn (getD days k 0)) j k tt tt
+      shows-out c r _ (in-dates-after-last r _ (lt-elim {X = Unit {0}} (λ _. r .last < dateIn (getD days k 0)) j k tt tt
       (λ m. omega (arith, spanned-less s j k m inside)) (λ m. let e : j ≡ k = omega arith in rw e at h)))
 
   module _ (j : ℕ) (inside : j < length days) where
     -- where the last date is reached none follows
     pub after-last : r .last ≤ dateIn (getD days j 0) → Next (λ k. ruleShows c r (getD days k 0)) (j + 1) (length days) (length days)
-    after-last h = next-end (omega arith) (λ k from less. shows-out c r _ (no-more r _ (omega (arith, spanned-less s j k (omega arith) less))))
+    after-last h = next-end (omega arith) (λ k from less. shows-out c r _ (in-dates-after-last r _ (omega (arith, spanned-less s j k (omega arith) less))))
 
     -- a weekly rule: the days end within the week, the rule does, or it shows a week later
     module _ (kind : r .kind ≡ 2) (e : ruleShows c r (getD days j 0) ≡ true) where

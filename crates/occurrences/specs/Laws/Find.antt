@@ -14,7 +14,7 @@ use Rattle.day_steps.specs.Moves.{FactsAt}
 use Rattle.day_steps.specs.Laws.Moves.{Reaches, reaches-most, reaches-same, moved-reaches}
 use Rattle.falls.specs.declared.types.ShortMonth.{ShortMonth}
 use Rattle.occurrences.specs.Rules.{ruleShows, startFrom, waitFor}
-use Rattle.occurrences.specs.Laws.Waits.{shows-out, not-yet, date-past, wait-not}
+use Rattle.occurrences.specs.Laws.Waits.{shows-out, in-dates-before-first, date-past, wait-not}
 use Rattle.occurrences.specs.declared.types.Rule.{Rule}
 
 -- the search passes over days before the rule's first date alone
@@ -42,7 +42,7 @@ module _ (c : ShortMonth) (r : Rule) where
   free-before {f} {g} s d l m =
       let h = s .at .high in
       let k = facts-known d (omega arith) in
-      shows-out c r _ (not-yet r _ (rw (day-code-holds k .date) (s .before d l m)))
+      shows-out c r _ (in-dates-before-first r _ (rw (day-code-holds k .date) (s .before d l m)))
 
   -- after the last date
   pub free-after : (n : ℕ) → r .last < dateIn (dayCode (factsOf n)) → Free n (lastDay + 1)

@@ -24,13 +24,13 @@ pub shows-out : (c : ShortMonth) (r : Rule) (p : ℕ) → inDates r p ≡ false 
 unfolding ruleShows
 shows-out c r p e = rw e (bool-cases (onDate c r p) (λ t. rw t (is-true refl false false)) (λ t. rw t (is-false refl false false)))
 
-pub not-yet : (r : Rule) (p : ℕ) → dateIn p < r .first → inDates r p ≡ false
+pub in-dates-before-first : (r : Rule) (p : ℕ) → dateIn p < r .first → inDates r p ≡ false
 unfolding inDates
-not-yet r p h = is-lt h _ _
+in-dates-before-first r p h = is-lt h _ _
 
-pub no-more : (r : Rule) (p : ℕ) → r .last < dateIn p → inDates r p ≡ false
+pub in-dates-after-last : (r : Rule) (p : ℕ) → r .last < dateIn p → inDates r p ≡ false
 unfolding inDates
-no-more r p h = lt-elim (λ z. z ≡ false) (dateIn p) (r .first) _ _ (λ _. refl) (λ _. is-lt h _ _)
+in-dates-after-last r p h = lt-elim (λ z. z ≡ false) (dateIn p) (r .first) _ _ (λ _. refl) (λ _. is-lt h _ _)
 
 -- every wait is a day or more
 to-day-least : (p day : ℕ) → 1 ≤ toDay p day
@@ -121,8 +121,8 @@ module _ (n i : ℕ) (last : n + i ≤ lastDay) where
   date-not r one =
       lt-elim P (dateIn p) (r .first) _ _
       (λ ahead. lt-elim P (r .first - dateIn p) (toMonth p) _ _
-      (λ near. λ l. not-yet r q (omega (arith, rest (omega arith) .date)))
-      (λ far. λ l. not-yet r q (omega (arith, rest l .date))))
+      (λ near. λ l. in-dates-before-first r q (omega (arith, rest (omega arith) .date)))
+      (λ far. λ l. in-dates-before-first r q (omega (arith, rest l .date))))
       (λ past. λ l. absurd (omega arith))
     where
       P : ℕ → Type 0
@@ -130,10 +130,10 @@ module _ (n i : ℕ) (last : n + i ≤ lastDay) where
 
   -- after the last date
   pub date-past : (r : Rule) → r .last < dateIn p → inDates r q ≡ false
-  date-past r h = no-more r q (omega (arith, h, hp .date, hq .date, later-code n i last))
+  date-past r h = in-dates-after-last r q (omega (arith, h, hp .date, hq .date, later-code n i last))
 
   pub date-gone : (r : Rule) → 1 ≤ i → r .last ≤ dateIn p → inDates r q ≡ false
-  date-gone r one h = no-more r q (omega (arith, h, hp .date, hq .date, code-less n (n + i) (omega arith) last))
+  date-gone r one h = in-dates-after-last r q (omega (arith, h, hp .date, hq .date, code-less n (n + i) (omega arith) last))
 
   pub wait-not : (c : ShortMonth) (r : Rule) → 1 ≤ i → i < waitFor r p → ruleShows c r q ≡ false
   unfolding waitFor

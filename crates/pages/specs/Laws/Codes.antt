@@ -46,8 +46,8 @@ pub codes-behind : (codes old : List ℕ) (count v : ℕ) → drop count codes �
 codes-behind codes old count v e =
     drop-set-lt (count + 1) codes count v (omega arith) ∙ sym (drop-drop 1 count codes) ∙ ap (drop 1) e ∙ drop-drop 1 count old
 
-pub none-left : (codes whole : List ℕ) {left : List ℕ} → whole ≡ codes ++ left → left ≡ [] → codes ≡ whole
-none-left codes whole e z = sym (e ∙ ap (λ (l : List ℕ). codes ++ l) z ∙ append-nil codes)
+pub append-nil-whole : (codes whole : List ℕ) {left : List ℕ} → whole ≡ codes ++ left → left ≡ [] → codes ≡ whole
+append-nil-whole codes whole e z = sym (e ∙ ap (λ (l : List ℕ). codes ++ l) z ∙ append-nil codes)
 
 -- once the first n codes are ordered: what stands in front, and what behind
 module _ (x : List ℕ) (n : ℕ) {y : List ℕ} (h : n ≤ length x) (e : y ≡ sort minuteIn (take n x) ++ drop n x) where

@@ -40,9 +40,9 @@ module _ (p : ℕ → Bool) (asked : ℕ) where
   from-end = refl
 
   -- the search by the first day that passes, however it was found
-  pub next-is : {n : ℕ} → asked ≤ lastDay → Next p asked (lastDay + 1) n → nextOf p asked ≡ ifLt n (lastDay + 1) (foundOn asked n) (noneFrom asked)
+  pub next-of-first : {n : ℕ} → asked ≤ lastDay → Next p asked (lastDay + 1) n → nextOf p asked ≡ ifLt n (lastDay + 1) (foundOn asked n) (noneFrom asked)
   unfolding nextOf
-  next-is {n} h x =
+  next-of-first {n} h x =
       let low = x .low in
       let high = x .high in
       let e : asked + (n - asked) ≡ n = omega arith in

@@ -18,7 +18,7 @@ use Rattle.days.specs.Answers.{factsAnswer}
 use Rattle.days.specs.Laws.Answers.{facts-in, facts-out}
 use Rattle.days.specs.declared.answers.FactsAnswer.{FactsAnswer}
 use Rattle.days.specs.declared.types.CalendarDay.{CalendarDay}
-use Rattle.day_steps.specs.Laws.Moves.{day-at}
+use Rattle.day_steps.specs.Laws.Moves.{facts-of-day-number}
 use Rattle.book.specs.Books.{bookOf, entryAt, placesOf, entriesOf, mostRecords}
 use Rattle.book.specs.Walk.{nextPlace}
 use Rattle.book.specs.Invariants.{AcceptedBook}
@@ -52,7 +52,7 @@ from-accepted f n b h {a} e =
     let q : _≡_ {A = Ready} (record { records = b .records; facts = factsOf (n .0) }) a = ready-inj (p .1) in
     let l : n .0 ≤ lastDay = p .0 in
     let fine : ReadyBook f (record { records = b .records; facts = factsOf (n .0) }) =
-    record { size = h .size; long = h .long; count = h .count; day = rw (day-at (n .0)) l; facts = ap factsOf (sym (day-at (n .0))) } in
+    record { size = h .size; long = h .long; count = h .count; day = rw (facts-of-day-number (n .0)) l; facts = ap factsOf (sym (facts-of-day-number (n .0))) } in
     rw q at fine
 
 from-book : (f : List ℕ) (n : CalendarDay) (b : BookAnswer) → bookOf f ≡ b → {a : Ready} → validatedDay n b ≡ Validated.Ready a → ReadyBook f a
@@ -97,20 +97,20 @@ pub record Turn (f : List ℕ) (n at : ℕ) : Type 0 where
   pub next : Cursor f (suc n) (nextPlace f at)
   pub place : at ≤ length f
 
-pub record-turn : (f : List ℕ) (n at : ℕ) → Cursor f n at → n < length (placesOf f) → Turn f n at
-record-turn f n at c h =
+pub numbered-cursor : (f : List ℕ) (n at : ℕ) → Cursor f n at → n < length (placesOf f) → Turn f n at
+numbered-cursor f n at c h =
     let a : Ahead f n at = cursor-ahead f n at c h in
     record { more = numbered-more f n h ∙ rw (a .place); next = a .next; place = c .here .high }
 
 module _ (f : List ℕ) (n at : ℕ) (t : Turn f n at) (p : Numbered → Bool) where
-  pub turn-yes : p (recordAt f n at) ≡ true → keep p (numberedAt f n) ≡ recordAt f n at ∷ keep p (numberedAt f (suc n))
-  turn-yes h = ap (keep p) (t .more) ∙ keep-yes p _ _ h
+  pub keep-numbered-yes : p (recordAt f n at) ≡ true → keep p (numberedAt f n) ≡ recordAt f n at ∷ keep p (numberedAt f (suc n))
+  keep-numbered-yes h = ap (keep p) (t .more) ∙ keep-yes p _ _ h
 
-  pub turn-no : p (recordAt f n at) ≡ false → keep p (numberedAt f n) ≡ keep p (numberedAt f (suc n))
-  turn-no h = ap (keep p) (t .more) ∙ keep-no p _ _ h
+  pub keep-numbered-no : p (recordAt f n at) ≡ false → keep p (numberedAt f n) ≡ keep p (numberedAt f (suc n))
+  keep-numbered-no h = ap (keep p) (t .more) ∙ keep-no p _ _ h
 
-pub turn-end : (f : List ℕ) (n : ℕ) (p : Numbered → Bool) → length (placesOf f) ≤ n → keep p (numberedAt f n) ≡ []
-turn-end f n p h = ap (keep p) (numbered-end f n h) ∙ keep-nil p
+pub keep-numbered-end : (f : List ℕ) (n : ℕ) (p : Numbered → Bool) → length (placesOf f) ≤ n → keep p (numberedAt f n) ≡ []
+keep-numbered-end f n p h = ap (keep p) (numbered-end f n h) ∙ keep-nil p
 
 -- the order does not change the number of lines
 pub length-page : (p : Numbered → Bool) (f : List ℕ) → length (pageOf p f) ≡ length (keep p (numbered f))

@@ -57,13 +57,13 @@ pub b-no : {X : Type 0} (b : Bool) {r : X} (x : X) {y : X} → b ≡ false → r
 b-no b {r} x {y} h e = e ∙ sym (is-false h x y)
 
 -- by a flag v that a callee returned for the test b
-pub by-yes : {X : Type 0} (v b : Bool) {r x : X} (y : X) → v ≡ b → v ≡ true → r ≡ x → r ≡ ifB b x y
-by-yes v b y e h p = b-yes b y (sym e ∙ h) p
+pub if-by-true : {X : Type 0} (v b : Bool) {r x : X} (y : X) → v ≡ b → v ≡ true → r ≡ x → r ≡ ifB b x y
+if-by-true v b y e h p = b-yes b y (sym e ∙ h) p
 
-pub by-no : {X : Type 0} (v b : Bool) {r : X} (x : X) {y : X} → v ≡ b → v ≡ false → r ≡ y → r ≡ ifB b x y
-by-no v b x e h p = b-no b x (sym e ∙ h) p
+pub if-by-false : {X : Type 0} (v b : Bool) {r : X} (x : X) {y : X} → v ≡ b → v ≡ false → r ≡ y → r ≡ ifB b x y
+if-by-false v b x e h p = b-no b x (sym e ∙ h) p
 
-pub ruleset picks = (lt-yes, lt-no, eq-yes, eq-no, b-yes, b-no, by-yes, by-no, arith)
+pub ruleset picks = (lt-yes, lt-no, eq-yes, eq-no, b-yes, b-no, if-by-true, if-by-false, arith)
 
 -- A test is passed or failed.
 pub bool-cases : {P : Type 0} (b : Bool) → (b ≡ true → P) → (b ≡ false → P) → P

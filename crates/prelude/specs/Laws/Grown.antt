@@ -24,8 +24,8 @@ grown-start h = record { room = h; long = refl; sum = refl; done = refl; kept = 
 
 module _ {A : Type 0} {o₀ : List A} {at : ℕ} {whole : List A} where
   -- the room for all that is left, where it is one last piece
-  pub space-last : {o : List A} {pos : ℕ} {rest : List A} → Grown o₀ at whole o pos rest → pos + length rest ≤ length o
-  space-last g = omega arith
+  pub grown-last-fits : {o : List A} {pos : ℕ} {rest : List A} → Grown o₀ at whole o pos rest → pos + length rest ≤ length o
+  grown-last-fits g = omega arith
 
   -- the room for the piece xs, which comes next
   pub grown-space : {o : List A} {pos : ℕ} (xs rest : List A) → Grown o₀ at whole o pos (xs ++ rest) → pos + length xs ≤ length o
@@ -48,8 +48,8 @@ module _ {A : Type 0} {o₀ : List A} {at : ℕ} {whole : List A} where
       }
 
   -- what is left, told another way
-  pub grown-turn : {o : List A} {pos : ℕ} {rest rest′ : List A} → rest ≡ rest′ → Grown o₀ at whole o pos rest → Grown o₀ at whole o pos rest′
-  grown-turn e g = rw e at g
+  pub grown-rest-equal : {o : List A} {pos : ℕ} {rest rest′ : List A} → rest ≡ rest′ → Grown o₀ at whole o pos rest → Grown o₀ at whole o pos rest′
+  grown-rest-equal e g = rw e at g
 
   -- all is written
   pub grown-end : {o : List A} {pos : ℕ} → Grown o₀ at whole o pos [] → (pos ≡ at + length whole) × (o ≡ splice o₀ at whole)
@@ -62,10 +62,10 @@ module _ {A : Type 0} {o₀ : List A} {at : ℕ} {whole : List A} where
       )
 
   -- the last piece is written
-  pub finish-last :
+  pub grown-last :
       {o o′ : List A} {pos pos′ : ℕ} (xs : List A)
       → Grown o₀ at whole o pos xs → pos′ ≡ pos + length xs → o′ ≡ splice o pos xs → (pos′ ≡ at + length whole) × (o′ ≡ splice o₀ at whole)
-  finish-last xs g ep eo = grown-end (grown-more xs (grown-turn (sym (append-nil xs)) g) ep eo)
+  grown-last xs g ep eo = grown-end (grown-more xs (grown-rest-equal (sym (append-nil xs)) g) ep eo)
 
 -- Elements stored in place, one behind the other, are a piece too.
 module _ {A : Type 0} where

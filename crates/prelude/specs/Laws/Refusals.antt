@@ -8,5 +8,5 @@ use Rattle.prelude.specs.declared.refusals.Verdict.{Verdict}
 use Rattle.prelude.specs.Laws.Choice.{constructors-differ}
 
 -- A refusal is no fine verdict.
-pub verdict-not : {e : Refusal} → Verdict.Refused e ≡ Verdict.Fine → ⊥
-verdict-not c = constructors-differ cc
+pub refused-not-fine : {e : Refusal} → Verdict.Refused e ≡ Verdict.Fine → ⊥
+refused-not-fine c = constructors-differ cc

@@ -7,71 +7,71 @@ use native.Mathlib.Omega.{arith}
 use native.Mathlib.Numerals.{add-one}
 use Rattle.prelude.specs.Choice.{ifB}
 use Rattle.prelude.specs.Laws.Choice.{is-true, is-false, lt-elim}
-use Rattle.prelude.specs.Laws.Refusals.{verdict-not}
+use Rattle.prelude.specs.Laws.Refusals.{refused-not-fine}
 use Rattle.prelude.specs.Verdicts.{refused, unlessBad, andThen, inTurn}
 use Rattle.prelude.specs.declared.refusals.Refusal.{Refusal}
 use Rattle.prelude.specs.declared.refusals.Verdict.{Verdict}
 
 -- by a test
-pub bad-refused : {b : Bool} (n p : ℕ) → b ≡ true → unlessBad b n p ≡ refused n p
+pub unless-bad-true : {b : Bool} (n p : ℕ) → b ≡ true → unlessBad b n p ≡ refused n p
 unfolding unlessBad
-bad-refused n p e = is-true e _ _
+unless-bad-true n p e = is-true e _ _
 
-pub good-fine : {b : Bool} (n p : ℕ) → b ≡ false → unlessBad b n p ≡ Verdict.Fine
+pub unless-bad-false : {b : Bool} (n p : ℕ) → b ≡ false → unlessBad b n p ≡ Verdict.Fine
 unfolding unlessBad
-good-fine n p e = is-false e _ _
+unless-bad-false n p e = is-false e _ _
 
-pub fine-good : (b : Bool) (n p : ℕ) → unlessBad b n p ≡ Verdict.Fine → b ≡ false
+pub unless-bad-fine : (b : Bool) (n p : ℕ) → unlessBad b n p ≡ Verdict.Fine → b ≡ false
 unfolding unlessBad ifB
-fine-good true n p e = absurd (verdict-not e)
-fine-good false n p e = refl
+unless-bad-fine true n p e = absurd (refused-not-fine e)
+unless-bad-fine false n p e = refl
 
 -- one after the other, where the first is v
-pub then-fine : {u v : Verdict} (w : Verdict) → v ≡ u → v ≡ Verdict.Fine → andThen u w ≡ w
+pub and-then-fine : {u v : Verdict} (w : Verdict) → v ≡ u → v ≡ Verdict.Fine → andThen u w ≡ w
 unfolding andThen
-then-fine w e f = rw (← e, f)
+and-then-fine w e f = rw (← e, f)
 
-pub then-refused : {u v : Verdict} {x : Refusal} (w : Verdict) → v ≡ u → v ≡ Verdict.Refused x → andThen u w ≡ Verdict.Refused x
+pub and-then-refused : {u v : Verdict} {x : Refusal} (w : Verdict) → v ≡ u → v ≡ Verdict.Refused x → andThen u w ≡ Verdict.Refused x
 unfolding andThen
-then-refused w e f = rw (← e, f)
+and-then-refused w e f = rw (← e, f)
 
-pub both-fine : (v w : Verdict) → andThen v w ≡ Verdict.Fine → (v ≡ Verdict.Fine) × (w ≡ Verdict.Fine)
+pub and-then-fine-both : (v w : Verdict) → andThen v w ≡ Verdict.Fine → (v ≡ Verdict.Fine) × (w ≡ Verdict.Fine)
 unfolding andThen
-both-fine Verdict.Fine w e = (refl, e)
-both-fine (Verdict.Refused x) w e = absurd (verdict-not e)
+and-then-fine-both Verdict.Fine w e = (refl, e)
+and-then-fine-both (Verdict.Refused x) w e = absurd (refused-not-fine e)
 
 -- in turn from i up to k
 module _ (judged : ℕ → Verdict) where
-  pub turn-start : (k : ℕ) → inTurn judged k 0 ≡ inTurn judged (k - 0) 0
-  turn-start k = ap (λ (m : ℕ). inTurn judged m 0) (omega arith)
+  pub in-turn-first : (k : ℕ) → inTurn judged k 0 ≡ inTurn judged (k - 0) 0
+  in-turn-first k = ap (λ (m : ℕ). inTurn judged m 0) (omega arith)
 
   left : (k i : ℕ) → i < k → inTurn judged (k - i) i ≡ inTurn judged (suc (k - (i + 1))) i
   left k i h = ap (λ (m : ℕ). inTurn judged m i) (omega arith)
 
-  pub turn-fine : (k i : ℕ) {v : Verdict} → i < k → v ≡ judged i → v ≡ Verdict.Fine → inTurn judged (k - i) i ≡ inTurn judged (k - (i + 1)) (i + 1)
+  pub in-turn-fine : (k i : ℕ) {v : Verdict} → i < k → v ≡ judged i → v ≡ Verdict.Fine → inTurn judged (k - i) i ≡ inTurn judged (k - (i + 1)) (i + 1)
   unfolding inTurn
-  turn-fine k i h e f = left k i h ∙ then-fine _ e f ∙ ap (inTurn judged (k - (i + 1))) (sym (add-one i))
+  in-turn-fine k i h e f = left k i h ∙ and-then-fine _ e f ∙ ap (inTurn judged (k - (i + 1))) (sym (add-one i))
 
-  pub turn-refused : (k i : ℕ) {v : Verdict} {x : Refusal} → i < k → v ≡ judged i → v ≡ Verdict.Refused x → inTurn judged (k - i) i ≡ Verdict.Refused x
+  pub in-turn-refused : (k i : ℕ) {v : Verdict} {x : Refusal} → i < k → v ≡ judged i → v ≡ Verdict.Refused x → inTurn judged (k - i) i ≡ Verdict.Refused x
   unfolding inTurn
-  turn-refused k i h e f = left k i h ∙ then-refused _ e f
+  in-turn-refused k i h e f = left k i h ∙ and-then-refused _ e f
 
   none : (k i : ℕ) → k ≡ 0 → inTurn judged k i ≡ Verdict.Fine
   unfolding inTurn
   none zero i e = refl
   none (suc k) i e = absurd (omega arith)
 
-  pub turn-none : (k i : ℕ) → k ≤ i → inTurn judged (k - i) i ≡ Verdict.Fine
-  turn-none k i h = none (k - i) i (omega arith)
+  pub in-turn-past : (k i : ℕ) → k ≤ i → inTurn judged (k - i) i ≡ Verdict.Fine
+  in-turn-past k i h = none (k - i) i (omega arith)
 
-  pub all-fine : (k i : ℕ) → inTurn judged k i ≡ Verdict.Fine → (j : ℕ) → i ≤ j → j < i + k → judged j ≡ Verdict.Fine
+  pub in-turn-fine-each : (k i : ℕ) → inTurn judged k i ≡ Verdict.Fine → (j : ℕ) → i ≤ j → j < i + k → judged j ≡ Verdict.Fine
   unfolding inTurn
-  all-fine zero i e j a b = absurd (omega arith)
-  all-fine (suc k) i e j a b =
-      let s = both-fine (judged i) _ e in
-      lt-elim {X = Unit {0}} (λ _. judged j ≡ Verdict.Fine) i j tt tt (λ h. all-fine k (suc i) (s .1) j h (omega arith)) (λ h. let q : j ≡ i = omega arith in ap judged q ∙ s .0)
+  in-turn-fine-each zero i e j a b = absurd (omega arith)
+  in-turn-fine-each (suc k) i e j a b =
+      let s = and-then-fine-both (judged i) _ e in
+      lt-elim {X = Unit {0}} (λ _. judged j ≡ Verdict.Fine) i j tt tt (λ h. in-turn-fine-each k (suc i) (s .1) j h (omega arith)) (λ h. let q : j ≡ i = omega arith in ap judged q ∙ s .0)
 
-  pub fine-all : (k i : ℕ) → ((j : ℕ) → i ≤ j → j < i + k → judged j ≡ Verdict.Fine) → inTurn judged k i ≡ Verdict.Fine
+  pub each-fine-in-turn : (k i : ℕ) → ((j : ℕ) → i ≤ j → j < i + k → judged j ≡ Verdict.Fine) → inTurn judged k i ≡ Verdict.Fine
   unfolding inTurn
-  fine-all zero i f = refl
-  fine-all (suc k) i f = then-fine _ refl (f i (omega arith) (omega arith)) ∙ fine-all k (suc i) (λ j a b. f j (omega arith) (omega arith))
+  each-fine-in-turn zero i f = refl
+  each-fine-in-turn (suc k) i f = and-then-fine _ refl (f i (omega arith) (omega arith)) ∙ each-fine-in-turn k (suc i) (λ j a b. f j (omega arith) (omega arith))

@@ -25,7 +25,7 @@ use Rattle.book.specs.Laws.Books.{Cursor, cursor-first, Ahead, cursor-ahead}
 use Rattle.book.specs.Settings.{firstRecord}
 use Rattle.pages.specs.Pages.{Numbered, numbered, startOf, pageOf, pageLineOf}
 use Rattle.pages.specs.Invariants.{ReadyBook, recordAt}
-use Rattle.pages.specs.Laws.Pages.{numberedAt, numbered-first, Turn, record-turn, turn-yes, turn-no, turn-end, length-page}
+use Rattle.pages.specs.Laws.Pages.{numberedAt, numbered-first, Turn, numbered-cursor, keep-numbered-yes, keep-numbered-no, keep-numbered-end, length-page}
 use Rattle.pages.specs.declared.types.Ready.{Ready}
 use Rattle.printing.specs.Printed.{headLine, pageLines, printed, pageText}
 use Rattle.printing.specs.Laws.Printed.{length-head, lineSize, line-size, length-lines}
@@ -71,17 +71,17 @@ module _ (f : List ℕ) (p : Numbered → Bool) where
   bounded : (k n at : ℕ) → Cursor f n at → n + k ≡ length (placesOf f) → Bounded f at (keep p (numberedAt f n))
   bounded zero n at c e =
       let h = c .here .high in
-      rw (turn-end f n p (omega arith)) (record { less = rw (total-nil (lineSize f)) (omega arith); most = rw (total-nil (lineSize f)) (omega arith) })
+      rw (keep-numbered-end f n p (omega arith)) (record { less = rw (total-nil (lineSize f)) (omega arith); most = rw (total-nil (lineSize f)) (omega arith) })
   bounded (suc k) n at c e =
       let h : n < length (placesOf f) = omega arith in
       let a : Ahead f n at = cursor-ahead f n at c h in
-      let t : Turn f n at = record-turn f n at c h in
+      let t : Turn f n at = numbered-cursor f n at c h in
       let s : Smaller f n at = smaller f n at (a .entry) in
       let b : Bounded f (nextPlace f at) (keep p (numberedAt f (suc n))) = bounded k (suc n) (nextPlace f at) (a .next) (omega arith) in
       let q = total-cons (lineSize f) (recordAt f n at) (keep p (numberedAt f (suc n))) in
       bool-cases (p (recordAt f n at))
-      (λ y. rw (turn-yes f n at t p y) (record { less = omega arith; most = omega arith }))
-      (λ y. rw (turn-no f n at t p y) (record { less = omega arith; most = omega arith }))
+      (λ y. rw (keep-numbered-yes f n at t p y) (record { less = omega arith; most = omega arith }))
+      (λ y. rw (keep-numbered-no f n at t p y) (record { less = omega arith; most = omega arith }))
 
   -- all records of a book that pass
   pub book-most : firstRecord ≤ length f → (total (lineSize f) (keep p (numbered f)) + length (keep p (numbered f)) + firstRecord ≤ length f) × (total (lineSize f) (keep p (numbered f)) ≤ 40 * length (keep p (numbered f)))

@@ -69,8 +69,8 @@ within-start s start = record { order = omega arith; same = omega arith }
 pub zero-here : (s : List ℕ) (i : ℕ) → i < length s → byte s i ≡ 0 → toZero (drop i s) ≡ 0
 zero-here s i h z = rw (drop-cons s i 0 h) (to-zero-zero _ _ z)
 
-pub end-here : (s : List ℕ) (i : ℕ) → length s ≤ i → toZero (drop i s) ≡ 0
-end-here s i h = rw (drop-of-length-le s h) to-zero-nil
+pub to-zero-past-end : (s : List ℕ) (i : ℕ) → length s ≤ i → toZero (drop i s) ≡ 0
+to-zero-past-end s i h = rw (drop-of-length-le s h) to-zero-nil
 
 pub within-next : {s : List ℕ} {start i : ℕ} → WithinNote s start i → i < length s → (byte s i ≡ 0 → ⊥) → WithinNote s start (i + 1)
 within-next {s} {start} {i} w h n =
@@ -78,15 +78,15 @@ within-next {s} {start} {i} w h n =
     record { order = omega arith; same = omega arith }
 
 -- One byte on, to a place that is named.
-pub within-step : {s : List ℕ} {start i : ℕ} (j : ℕ) → j ≡ i + 1 → WithinNote s start i → i < length s → (byte s i ≡ 0 → ⊥) → WithinNote s start j
-within-step j e w h n = rw e (within-next w h n)
+pub within-next-place : {s : List ℕ} {start i : ℕ} (j : ℕ) → j ≡ i + 1 → WithinNote s start i → i < length s → (byte s i ≡ 0 → ⊥) → WithinNote s start j
+within-next-place j e w h n = rw e (within-next w h n)
 
 -- The line ends at i, by a zero or with the note.
 pub within-zero : {s : List ℕ} {start i : ℕ} → WithinNote s start i → i < length s → byte s i ≡ 0 → toZero (drop start s) ≡ i - start
 within-zero {s} {start} {i} w h z = let e = zero-here s i h z in omega (arith, w .same)
 
 pub within-end : {s : List ℕ} {start i : ℕ} → WithinNote s start i → length s ≤ i → toZero (drop start s) ≡ i - start
-within-end {s} {start} {i} w h = let e = end-here s i h in omega (arith, w .same)
+within-end {s} {start} {i} w h = let e = to-zero-past-end s i h in omega (arith, w .same)
 
 -- A line of n bytes begins at start.
 pub record Line (s : List ℕ) (start n : ℕ) : Type 0 where

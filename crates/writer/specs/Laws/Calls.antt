@@ -45,12 +45,12 @@ module _ (n : ℕ) (next came : Writer) (b : List ℕ) (at : ℕ) (bytes : List 
   none zero e = (refl, e)
   none (suc m) e = absurd (refused-not (rw (eqb·suc-zero m) at e))
 
-  pub call-done : {w : Writer} {b′ : List ℕ} → call n ≡ done w b′ → (n ≡ 0) × (go next (splice b at bytes) ≡ done w b′)
-  call-done e = none n e
+  pub call-done-refusal-zero : {w : Writer} {b′ : List ℕ} → call n ≡ done w b′ → (n ≡ 0) × (go next (splice b at bytes) ≡ done w b′)
+  call-done-refusal-zero e = none n e
 
-  pub call-goes : n ≡ 0 → call n ≡ go next (splice b at bytes)
+  pub call-zero-goes : n ≡ 0 → call n ≡ go next (splice b at bytes)
   unfolding givesWhere leavesWhere ifEq
-  call-goes e = rw e
+  call-zero-goes e = rw e
 
 pub room-facts : (size end : ℕ) → roomRefusal size end ≡ 0 → Room size end
 unfolding roomRefusal

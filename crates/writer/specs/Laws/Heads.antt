@@ -53,13 +53,13 @@ to-do-fit {t} f =
 pub day-fit : (m d : ℕ) → Within 1 m 12 → Within 1 d (monthLength 2000 m) → d < 256
 day-fit m d w x = let b : Month m (monthLength 2000 m) = length-bounds 2000 m (w .least) (w .most) in omega (arith, x .most)
 
-pub to-do-not : (d : ToDo) (t n : ℕ) → d .«check_off» ≡ CheckOff.NotCheckedOff → toDoHead d 0 0 0 0 t n ≡ recordHead (Record.ToDo d) t n
+pub to-do-head-not-checked : (d : ToDo) (t n : ℕ) → d .«check_off» ≡ CheckOff.NotCheckedOff → toDoHead d 0 0 0 0 t n ≡ recordHead (Record.ToDo d) t n
 unfolding recordHead typeOf fixedOf ifEq fixedBytes checkOffBit checkOffBytes
-to-do-not d t n e = rw e
+to-do-head-not-checked d t n e = rw e
 
-pub to-do-on : (d : ToDo) (on : Date) (t n : ℕ) → d .«check_off» ≡ CheckOff.On on → toDoHead d 2 (on .year - 1900) (on .month) (on .day) t n ≡ recordHead (Record.ToDo d) t n
+pub to-do-head-checked : (d : ToDo) (on : Date) (t n : ℕ) → d .«check_off» ≡ CheckOff.On on → toDoHead d 2 (on .year - 1900) (on .month) (on .day) t n ≡ recordHead (Record.ToDo d) t n
 unfolding recordHead typeOf fixedOf ifEq fixedBytes checkOffBit checkOffBytes dateBytes
-to-do-on d on t n e = rw e
+to-do-head-checked d on t n e = rw e
 
 -- the heads of types 2 to 5 are theirs
 pub weekly-head : (w : Weekly) (t n : ℕ) → shortHead 2 (w .weekday) (w .repeat) t n ≡ recordHead (Record.Weekly w) t n

@@ -123,15 +123,15 @@ module _ (f : List ℕ) (at : ℕ) (i : Item) (rest : List ℕ) (d : drop at f �
 
 -- the end record's bytes at a file's end
 module _ (f : List ℕ) (at : ℕ) (d : drop at f ≡ endBytes) where
-  pub end-last : at + 3 ≡ length f
-  end-last =
+  pub end-record-last : at + 3 ≡ length f
+  end-record-last =
       let e = ap length d in
       let n = length-drop at f in
       omega arith
 
-  pub end-here : stepAt f at ≡ StepAnswer.End
-  end-here =
+  pub step-at-end-record : stepAt f at ≡ StepAnswer.End
+  step-at-end-record =
       let t : byte f at ≡ 50 = ap (byte f) (sym (add-zero at)) ∙ sym (byte-drop f at 0) ∙ ap (λ l. byte l 0) d in
       let l : word f (at + 1) ≡ 0 = sym (word-drop f at 1) ∙ ap (λ l. word l 1) d in
-      let e = end-last in
+      let e = end-record-last in
       end-step f at (record { there = omega arith; type = t; none = l })

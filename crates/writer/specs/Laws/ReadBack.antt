@@ -25,7 +25,7 @@ use Rattle.book.specs.declared.types.BookAnswer.{BookAnswer}
 use Rattle.writer.specs.Writing.{openBytes}
 use Rattle.writer.specs.Runs.{Item, recordBytes, Items, restBytes, itemBytes}
 use Rattle.writer.specs.Laws.Runs.{rest-item}
-use Rattle.writer.specs.Laws.Items.{Entered, item-next, item-step, item-entry, end-last, end-here}
+use Rattle.writer.specs.Laws.Items.{Entered, item-next, item-step, item-entry, end-record-last, step-at-end-record}
 
 -- The opening bytes.
 record InRange (s : Settings) : Type 0 where
@@ -81,9 +81,9 @@ pub read-walked : (f : List ℕ) (is : List Item) (n at : ℕ) → Items is → 
 unfolding recordBytes counted placesIn endIn
 read-walked f [] n at o a d =
     record {
-      count = rw (walk-end a (end-here f at d)) (at-end f n (at + 3) (end-last f at d));
+      count = rw (walk-end a (step-at-end-record f at d)) (at-end f n (at + 3) (end-record-last f at d));
       entries = λ k x h. absurd (omega arith);
-      end = rw (walk-end a (end-here f at d)) (end-last f at d);
+      end = rw (walk-end a (step-at-end-record f at d)) (end-record-last f at d);
     }
 read-walked f (i ∷ is) n at o a d =
     let d′ : drop at f ≡ itemBytes i ++ restBytes is = d ∙ rest-item i is in

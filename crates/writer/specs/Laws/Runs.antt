@@ -14,29 +14,29 @@ use Rattle.book.specs.declared.types.Settings.{Settings}
 use Rattle.book.specs.Books.{mostBookBytes}
 use Rattle.writer.specs.Writing.{openBytes, endBytes, openRefusal, openGives, openLeaves, addRefusal, addGives, addLeaves, closeRefusal, closeGives, closeLeaves}
 use Rattle.writer.specs.Runs.{Item, done, finish, adds, writing, recordBytes, bookBytes, restBytes, itemBytes, closedAt, Items, opened, Written}
-use Rattle.writer.specs.Laws.Calls.{Room, length-open, call-done, call-goes, open-facts, facts-open, add-facts, facts-add, close-facts, facts-close}
+use Rattle.writer.specs.Laws.Calls.{Room, length-open, call-done-refusal-zero, call-zero-goes, open-facts, facts-open, add-facts, facts-add, close-facts, facts-close}
 use Rattle.writer.specs.declared.types.Writer.{Writer}
 
 -- The run by its calls.
 finish-done : (at : ℕ) (b : List ℕ) {w : Writer} {b′ : List ℕ} → finish (opened at) b ≡ done w b′ → (closeRefusal (opened at) (length b) ≡ 0) × (done (closedAt (at + 3)) (splice b at endBytes) ≡ done w b′)
 unfolding finish closeGives closeLeaves
-finish-done at b e = call-done (closeRefusal (opened at) (length b)) (closedAt (at + 3)) (opened at) b at endBytes (λ v c. done v c) e
+finish-done at b e = call-done-refusal-zero (closeRefusal (opened at) (length b)) (closedAt (at + 3)) (opened at) b at endBytes (λ v c. done v c) e
 
 finish-goes : (at : ℕ) (b : List ℕ) → closeRefusal (opened at) (length b) ≡ 0 → finish (opened at) b ≡ done (closedAt (at + 3)) (splice b at endBytes)
 unfolding finish closeGives closeLeaves
-finish-goes at b e = call-goes (closeRefusal (opened at) (length b)) (closedAt (at + 3)) (opened at) b at endBytes (λ v c. done v c) e
+finish-goes at b e = call-zero-goes (closeRefusal (opened at) (length b)) (closedAt (at + 3)) (opened at) b at endBytes (λ v c. done v c) e
 
 add-done :
     (i : Item) (is : List Item) (at : ℕ) (b : List ℕ) {w : Writer} {b′ : List ℕ} → adds (i ∷ is) (opened at) b ≡ done w b′
     → (addRefusal (opened at) (length b) (i .kind) (i .text) (i .note) ≡ 0) × (adds is (opened (at + length (itemBytes i))) (splice b at (itemBytes i)) ≡ done w b′)
 unfolding adds addGives addLeaves
-add-done i is at b e = call-done (addRefusal (opened at) (length b) (i .kind) (i .text) (i .note)) (opened (at + length (itemBytes i))) (opened at) b at (itemBytes i) (λ v c. adds is v c) e
+add-done i is at b e = call-done-refusal-zero (addRefusal (opened at) (length b) (i .kind) (i .text) (i .note)) (opened (at + length (itemBytes i))) (opened at) b at (itemBytes i) (λ v c. adds is v c) e
 
 add-goes :
     (i : Item) (is : List Item) (at : ℕ) (b : List ℕ) → addRefusal (opened at) (length b) (i .kind) (i .text) (i .note) ≡ 0
     → adds (i ∷ is) (opened at) b ≡ adds is (opened (at + length (itemBytes i))) (splice b at (itemBytes i))
 unfolding adds addGives addLeaves
-add-goes i is at b e = call-goes (addRefusal (opened at) (length b) (i .kind) (i .text) (i .note)) (opened (at + length (itemBytes i))) (opened at) b at (itemBytes i) (λ v c. adds is v c) e
+add-goes i is at b e = call-zero-goes (addRefusal (opened at) (length b) (i .kind) (i .text) (i .note)) (opened (at + length (itemBytes i))) (opened at) b at (itemBytes i) (λ v c. adds is v c) e
 
 done-writer : {v w : Writer} {a b : List ℕ} → done v a ≡ done w b → w ≡ v
 done-writer e = cc
@@ -108,11 +108,11 @@ length-book s is = ap length (book-parts s is) ∙ length-append (openBytes s) (
 module _ (s : Settings) (is : List Item) (b : List ℕ) where
   open-done : {w : Writer} {b′ : List ℕ} → writing s is b ≡ done w b′ → (openRefusal s (length b) ≡ 0) × (adds is (opened firstRecord) (splice b 0 (openBytes s)) ≡ done w b′)
   unfolding writing openGives openLeaves
-  open-done e = call-done (openRefusal s (length b)) (opened firstRecord) (opened 0) b 0 (openBytes s) (λ v c. adds is v c) e
+  open-done e = call-done-refusal-zero (openRefusal s (length b)) (opened firstRecord) (opened 0) b 0 (openBytes s) (λ v c. adds is v c) e
 
   open-goes : openRefusal s (length b) ≡ 0 → writing s is b ≡ adds is (opened firstRecord) (splice b 0 (openBytes s))
   unfolding writing openGives openLeaves
-  open-goes e = call-goes (openRefusal s (length b)) (opened firstRecord) (opened 0) b 0 (openBytes s) (λ v c. adds is v c) e
+  open-goes e = call-zero-goes (openRefusal s (length b)) (opened firstRecord) (opened 0) b 0 (openBytes s) (λ v c. adds is v c) e
 
   -- the opening bytes and then the rest are the book
   both : splice (splice b 0 (openBytes s)) 12 (restBytes is) ≡ splice b 0 (bookBytes s is)

@@ -14,7 +14,7 @@ use Rattle.book.specs.Fillers.{endIn, fillersOf}
 use Rattle.book.specs.Books.{counted, bookOf, placesOf}
 use Rattle.book.specs.Laws.Walk.{At, at-first, walk-met}
 use Rattle.book.specs.Invariants.{RecordAt}
-use Rattle.book.specs.Laws.Books.{book-accepted, refused-not, walk-counted}
+use Rattle.book.specs.Laws.Books.{book-accepted, refused-not-accepted, walk-counted}
 use Rattle.book.specs.Laws.SameBook.{book-places}
 use Rattle.book.specs.declared.types.Book.{Book}
 use Rattle.book.specs.declared.types.BookAnswer.{BookAnswer}
@@ -35,7 +35,7 @@ ahead-again f n at bs a (more p w) e c h l =
 ahead-again f n at bs a (ended p) e c h l =
     let m = walk-met f n at a e in
     end-again f at (m .0) (omega (arith, m .1))
-ahead-again f n at bs a (stopped r) e c h l = absurd (refused-not c)
+ahead-again f n at bs a (stopped r) e c h l = absurd (refused-not-accepted c)
 
 -- Each record of an accepted book may be added.
 item-addable : (f : List ℕ) (at : ℕ) → RecordAt f at → Fine (itemAt f at)

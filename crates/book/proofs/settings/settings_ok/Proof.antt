@@ -2,7 +2,7 @@
 -- Assumes nothing.
 use native.Mathlib.Omega.{arith}
 use mathlib.Core.Path.{refl}
-use Rattle.prelude.specs.Laws.Choice.{picks, lt-no, by-yes, by-no}
+use Rattle.prelude.specs.Laws.Choice.{picks, lt-no, if-by-true, if-by-false}
 use Rattle.book.specs.Settings.{settingsOk}
 use borrow.Author.Needs.{needs}
 use Rattle.book.proofs.settings.settings_ok.Statement.{statement}
@@ -29,11 +29,11 @@ flags-ok-requires c κs = search needs
 
 returns-2 : tie.Need-returns-2
 unfolding settingsOk
-returns-2 c = lt-no _ _ _ (omega arith) (by-yes _ _ _ (cc) (c .before .before .before .if2 .taken) (cc))
+returns-2 c = lt-no _ _ _ (omega arith) (if-by-true _ _ _ (cc) (c .before .before .before .if2 .taken) (cc))
 
 returns-3 : tie.Need-returns-3
 unfolding settingsOk
-returns-3 c = lt-no _ _ _ (omega arith) (by-no _ _ _ (cc) (c .if2 .left) refl)
+returns-3 c = lt-no _ _ _ (omega arith) (if-by-false _ _ _ (cc) (c .if2 .left) refl)
 
 pub settings-ok-spec : {M : Type 1} → statement M
 settings-ok-spec =

@@ -5,7 +5,7 @@ use mathlib.Core.Path.{_≡_, refl, sym, _∙_, ap}
 use mathlib.Core.List.{List}
 use mathlib.Core.Bool.{true}
 use Rattle.calendar.specs.Lists.{minuteAt, nextAt, appointmentOk, listWalkFrom, verdictIn}
-use Rattle.calendar.specs.Laws.Lists.{AppointmentAt, ok-facts, walk-end, walk-more, walk-stop, verdict-end, verdict-more, verdict-stop}
+use Rattle.calendar.specs.Laws.Lists.{AppointmentAt, appointment-ok-facts, walk-end, walk-more, walk-stop, verdict-end, verdict-more, verdict-stop}
 use native.Mathlib.Omega.{arith}
 use Rattle.calendar.proofs.lists.judge_list.Statement.{statement}
 use Rattle.calendar.proofs.lists.judge_list.Tie as tie
@@ -30,7 +30,7 @@ ok : (c : tie.Then1 Inv-loop μ-loop) → appointmentOk (file c) (c .before .bef
 ok c = sym (c .before .appointment-ok .ensures) ∙ c .if1 .taken
 
 fine : (c : tie.Then1 Inv-loop μ-loop) → AppointmentAt (file c) (c .before .before .before .before .before .args .end) (c .before .before .before .loop .low) (c .before .before .before .loop .at)
-fine c = ok-facts _ _ _ _ (ok c)
+fine c = appointment-ok-facts _ _ _ _ (ok c)
 
 add-word-in : tie.Need-add-word-in Inv-loop μ-loop
 add-word-in c = let a = fine c in omega arith

@@ -1,7 +1,7 @@
 -- `judge_all` meets its contract: each arm is a clause of its definition.
 -- Assumes nothing.
 use mathlib.Core.Path.{sym, _∙_}
-use Rattle.prelude.specs.Laws.Verdicts.{then-fine, then-refused}
+use Rattle.prelude.specs.Laws.Verdicts.{and-then-fine, and-then-refused}
 use borrow.Author.Needs.{needs}
 use Rattle.calendar.proofs.reading.judge_all.Statement.{statement}
 use Rattle.calendar.proofs.reading.judge_all.Tie as tie
@@ -19,10 +19,10 @@ enum-known-v : tie.Need-enum-known-v
 enum-known-v c = search needs
 
 returns : tie.Need-returns
-returns c = c .judge-days .ensures ∙ sym (then-fine _ (c .before .before .before .judge-table .ensures) (c .before .enum-told .given .1))
+returns c = c .judge-days .ensures ∙ sym (and-then-fine _ (c .before .before .before .judge-table .ensures) (c .before .enum-told .given .1))
 
 returns-2 : tie.Need-returns-2
-returns-2 c = sym (then-refused _ (c .before .before .before .judge-table .ensures) (c .before .v .given .1))
+returns-2 c = sym (and-then-refused _ (c .before .before .before .judge-table .ensures) (c .before .v .given .1))
 
 pub judge-all-spec : {M : Type 1} → statement M
 judge-all-spec =

@@ -2,7 +2,7 @@
 -- Assumes nothing.
 use Prim.Native.Nat.{ℕ}
 use mathlib.Core.Path.{refl, sym, _∙_, ap}
-use Rattle.prelude.specs.Laws.Choice.{lt-yes, lt-no, by-yes, by-no}
+use Rattle.prelude.specs.Laws.Choice.{lt-yes, lt-no, if-by-true, if-by-false}
 use Rattle.prelude.specs.Verdicts.{andThen}
 use Rattle.calendar.specs.Reader.{tableFrom, daysFrom, calendarAnswered, calendarOf}
 use Rattle.calendar.specs.Laws.Reader.{head-long}
@@ -29,7 +29,7 @@ add-if3 c = search needs
 
 returns-2 : tie.Need-returns-2
 unfolding calendarOf
-returns-2 c = lt-no _ _ _ (omega arith) (by-yes _ _ _ (c .before .before .before .is-calendar .ensures) (c .before .before .if2 .taken) (lt-yes _ _ _ (omega arith) refl))
+returns-2 c = lt-no _ _ _ (omega arith) (if-by-true _ _ _ (c .before .before .before .is-calendar .ensures) (c .before .before .if2 .taken) (lt-yes _ _ _ (omega arith) refl))
 
 judge-all-requires : tie.Need-judge-all-requires
 judge-all-requires c κs = search needs
@@ -43,13 +43,13 @@ returns-3 c =
     let n = c .before .before .before in
     let f = n .before .before .before .before .before .args .file .now in
     lt-no _ _ _ (omega arith)
-    (by-yes _ _ _ (n .before .before .is-calendar .ensures) (n .before .if2 .taken)
+    (if-by-true _ _ _ (n .before .before .is-calendar .ensures) (n .before .if2 .taken)
     (lt-no _ _ _ (omega arith)
     (c .answered-with .ensures ∙ ap (calendarAnswered _) (c .before .judge-all .ensures) ∙ ap (λ (k : ℕ). calendarAnswered k (andThen (tableFrom k f 64 0) (daysFrom k f 64))) (n .count-of .ensures .0))))
 
 returns-4 : tie.Need-returns-4
 unfolding calendarOf
-returns-4 c = lt-no _ _ _ (omega arith) (by-no _ _ _ (c .before .is-calendar .ensures) (c .if2 .left) refl)
+returns-4 c = lt-no _ _ _ (omega arith) (if-by-false _ _ _ (c .before .is-calendar .ensures) (c .if2 .left) refl)
 
 pub read-calendar-spec : {M : Type 1} → statement M
 read-calendar-spec =

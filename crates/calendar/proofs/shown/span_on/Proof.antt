@@ -7,7 +7,7 @@ use Rattle.prelude.specs.declared.refusals.Verdict.{Verdict}
 use Rattle.calendar.specs.Reader.{dayVerdict, daysFrom}
 use Rattle.calendar.specs.Laws.Reader.{day-fine, days-fine}
 use Rattle.calendar.specs.Shown.{placesFrom, placesOn}
-use Rattle.calendar.specs.Laws.Appointments.{places-none, places-here, places-on, list-here, list-none}
+use Rattle.calendar.specs.Laws.Appointments.{places-none, places-here, places-from-other-day, list-here, list-none}
 use native.Mathlib.Omega.{arith}
 use Rattle.calendar.proofs.shown.span_on.Statement.{statement}
 use Rattle.calendar.proofs.shown.span_on.Tie as tie
@@ -62,7 +62,7 @@ loop-less c = omega arith
 loop-again : tie.Need-loop-again Inv-loop μ-loop
 loop-again c =
     let i = c .before .before in
-    (one i ∙ places-on _ _ _ _ (λ e. c .if1 .left (c .before .word-in .ensures ∙ e)), days-fine _ _ _ (some i) .1, omega arith)
+    (one i ∙ places-from-other-day _ _ _ _ (λ e. c .if1 .left (c .before .word-in .ensures ∙ e)), days-fine _ _ _ (some i) .1, omega arith)
 
 returns-2 : tie.Need-returns-2 Inv-loop μ-loop
 returns-2 c =

@@ -8,7 +8,7 @@ use native.Mathlib.Nat.{add-zero}
 use lib.ListN.{length, getD, drop, set, length-set}
 use lib.Seq.{getD-set-same, getD-set-other}
 use Rattle.prelude.specs.Laws.Choice.{lt-elim}
-use Rattle.prelude.specs.Laws.Grown.{Grown, grown-start, grown-space, grown-more, grown-turn, grown-end}
+use Rattle.prelude.specs.Laws.Grown.{Grown, grown-start, grown-space, grown-more, grown-rest-equal, grown-end}
 use Rattle.calendar_writer.specs.Sums.{rowOf, rows, unitsTo, noneYet}
 use Rattle.calendar_writer.specs.Laws.Turns.{rows-end, rows-more}
 use Rattle.calendar_writer.specs.Laws.Rows.{blank-step, units-first}
@@ -28,7 +28,7 @@ ahead : (c : tie.After-shared-slice-known2 Inv-loop μ-loop) → let l = c .befo
 ahead c =
     let l = c .before .before in
     let a = l .before .before .before .before .args in
-    grown-turn (rows-more (a .sums .now) (l .loop .k) noneYet (a .first + l .loop .k) (omega arith)) (l .loop .inv .0)
+    grown-rest-equal (rows-more (a .sums .now) (l .loop .k) noneYet (a .first + l .loop .k) (omega arith)) (l .loop .inv .0)
 
 loop-holds : tie.Need-loop-holds Inv-loop μ-loop
 loop-holds c =
@@ -72,7 +72,7 @@ loop-again c =
     let k = l .loop .k in
     let e : a .first + k + 1 ≡ a .first + (k + 1) = omega arith in
     let next = p .put-blank .ensures .0 in (
-      grown-turn (ap (λ (d : ℕ). rows noneYet d (k + 1) (drop (k + 1) ss)) e) (grown-more (rowOf _ _ []) (ahead h) next (p .put-blank .ensures .1)),
+      grown-rest-equal (ap (λ (d : ℕ). rows noneYet d (k + 1) (drop (k + 1) ss)) e) (grown-more (rowOf _ _ []) (ahead h) next (p .put-blank .ensures .1)),
       omega arith,
       length-set (l .loop .places) k (l .loop .pos + 10) ∙ l .loop .inv .2,
       omega (arith, next, blank-step (a .first + k) k ss (omega arith), l .loop .inv .3),
@@ -92,7 +92,7 @@ returns : tie.Need-returns Inv-loop μ-loop
 returns c =
     let l = c .before in
     let a = l .before .before .before .before .args in
-    let f = grown-end (grown-turn (rows-end (a .sums .now) (l .loop .k) noneYet (a .first + l .loop .k) (omega arith)) (l .loop .inv .0)) in
+    let f = grown-end (grown-rest-equal (rows-end (a .sums .now) (l .loop .k) noneYet (a .first + l .loop .k) (omega arith)) (l .loop .inv .0)) in
     (f .0, record { stands = f .1; place = λ i h. rw (place-none (a .sums .now) i) (l .loop .inv .4 i (omega arith)) })
 
 pub put-blanks-spec : {M : Type 1} → statement M

@@ -3,7 +3,7 @@
 use Prim.Native.Nat.{_+_}
 use mathlib.Core.List.{_++_}
 use lib.ListN.{length}
-use Rattle.prelude.specs.Laws.Grown.{Grown, grown-start, grown-space, space-last, grown-more, grown-turn, finish-last}
+use Rattle.prelude.specs.Laws.Grown.{Grown, grown-start, grown-space, grown-last-fits, grown-more, grown-rest-equal, grown-last}
 use Rattle.calendar.specs.File.{Appointment, zeros, appointmentBytes}
 use Rattle.calendar_writer.specs.Pieces.{appointmentHead}
 use Rattle.calendar_writer.specs.Laws.Pieces.{appointment-pieces}
@@ -16,7 +16,7 @@ appointmentOf s = record { minute = s .args .minute .0; flags = s .args .flags; 
 
 -- before the first piece, and behind each of the first two
 g0 : (s : tie.Start) → let a = s .args in Grown (a .out .now) (a .at) (appointmentBytes (appointmentOf s)) (a .out .now) (a .at) (appointmentHead (5 + length (a .text .now)) (a .flags) (a .minute .0) ++ (a .text .now ++ zeros 1))
-g0 s = grown-turn (appointment-pieces (appointmentOf s)) (grown-start (s .pre .1))
+g0 s = grown-rest-equal (appointment-pieces (appointmentOf s)) (grown-start (s .pre .1))
 
 g1 : (c : tie.After-copy-in) → let s = c .before .before .before .before .before .before in let a = s .args in Grown (a .out .now) (a .at) (appointmentBytes (appointmentOf s)) (c .copy-in .last .0) (c .copy-in .result) (a .text .now ++ zeros 1)
 g1 c =
@@ -46,7 +46,7 @@ copy-in-requires-2 : tie.Need-copy-in-requires-2
 copy-in-requires-2 c κs = grown-space (c .before .before .before .before .before .before .before .before .before .args .text .now) (zeros 1) (g1 (c .before .before .before))
 
 put-zeros-requires : tie.Need-put-zeros-requires
-put-zeros-requires c κs = space-last (g2 (c .before .before .before))
+put-zeros-requires c κs = grown-last-fits (g2 (c .before .before .before))
 
 same-length : tie.Need-same-length
 same-length c = search needs
@@ -54,7 +54,7 @@ same-length c = search needs
 returns : tie.Need-returns
 returns c =
     let z = c .before .before in
-    finish-last (zeros 1) (g2 (z .before .before .before .before)) (z .put-zeros .ensures .0) (z .put-zeros .ensures .1)
+    grown-last (zeros 1) (g2 (z .before .before .before .before)) (z .put-zeros .ensures .0) (z .put-zeros .ensures .1)
 
 pub put-appointment-spec : {M : Type 1} → statement M
 put-appointment-spec =

@@ -4,7 +4,7 @@ use Prim.Native.Nat.{_-_, _*_}
 use mathlib.Core.Path.{sym}
 use mathlib.Core.List.{[], _++_}
 use native.Mathlib.Omega.{arith}
-use Rattle.prelude.specs.Laws.Grown.{Grown, grown-start, grown-space, space-last, grown-more, grown-turn, finish-last}
+use Rattle.prelude.specs.Laws.Grown.{Grown, grown-start, grown-space, grown-last-fits, grown-more, grown-rest-equal, grown-last}
 use Rattle.prelude.specs.Laws.Splice.{splice-nil}
 use Rattle.calendar.specs.File.{zeros}
 use Rattle.calendar_writer.specs.Sums.{unitsFor, blockHead, rowOf}
@@ -17,7 +17,7 @@ use Rattle.calendar_writer.proofs.puts.put_blank.Tie as tie
 g0 : (c : tie.After-bytes-in) → let a = c .before .before .before .args in Grown (a .out .now) (a .at) (rowOf (a .day) (a .sum) []) (a .out .now) (a .at) (blockHead (a .day) (c .bytes-in .result) ++ zeros (64 * unitsFor (a .sum) - 10))
 g0 c =
     let s = c .before .before .before in
-    rw (c .bytes-in .ensures) (grown-turn (blank-some (s .args .day) (c .before .if1 .left)) (grown-start (s .pre)))
+    rw (c .bytes-in .ensures) (grown-rest-equal (blank-some (s .args .day) (c .before .if1 .left)) (grown-start (s .pre)))
 
 g1 : (c : tie.After-copy-in) → let a = c .before .before .before .before .before .before .before .args in Grown (a .out .now) (a .at) (rowOf (a .day) (a .sum) []) (c .copy-in .last .0) (c .copy-in .result) (zeros (64 * unitsFor (a .sum) - 10))
 g1 c =
@@ -52,7 +52,7 @@ sub-put-zeros : tie.Need-sub-put-zeros
 sub-put-zeros c = search needs
 
 put-zeros-requires : tie.Need-put-zeros-requires
-put-zeros-requires c κs = rw (c .units-for .ensures) (space-last (g1 (c .before .before .before .before)))
+put-zeros-requires c κs = rw (c .units-for .ensures) (grown-last-fits (g1 (c .before .before .before .before)))
 
 same-length : tie.Need-same-length
 same-length c = search needs
@@ -64,7 +64,7 @@ returns-2 c =
     let g = g1 (u .before .before .before .before) in
     let e = u .units-for .ensures in
     let s = u .before .before .before .before .before .before .before .before .before .before .before .args .sum in
-    finish-last (zeros (64 * unitsFor s - 10)) g (rw e at (z .put-zeros .ensures .0)) (rw e at (z .put-zeros .ensures .1))
+    grown-last (zeros (64 * unitsFor s - 10)) g (rw e at (z .put-zeros .ensures .0)) (rw e at (z .put-zeros .ensures .1))
 
 pub put-blank-spec : {M : Type 1} → statement M
 put-blank-spec =

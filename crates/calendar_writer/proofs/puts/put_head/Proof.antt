@@ -1,7 +1,7 @@
 -- `put_head` meets its contract: three pieces, one behind the other.
 -- Assumes nothing.
 use mathlib.Core.List.{_++_}
-use Rattle.prelude.specs.Laws.Grown.{Grown, grown-start, grown-space, space-last, grown-more, grown-turn, finish-last}
+use Rattle.prelude.specs.Laws.Grown.{Grown, grown-start, grown-space, grown-last-fits, grown-more, grown-rest-equal, grown-last}
 use Rattle.calendar.specs.File.{zeros, headBytes}
 use Rattle.calendar_writer.specs.Pieces.{headMark, settingsWords}
 use Rattle.calendar_writer.specs.Laws.Pieces.{head-pieces}
@@ -11,7 +11,7 @@ use Rattle.calendar_writer.proofs.puts.put_head.Tie as tie
 
 -- before the first piece, and behind each of the first two
 g0 : (s : tie.Start) → let a = s .args in Grown (a .out .now) (a .at) (headBytes (a .s) (a .n)) (a .out .now) (a .at) (headMark (a .n) ++ (settingsWords (a .s) ++ zeros 42))
-g0 s = grown-turn (head-pieces (s .args .s) (s .args .n)) (grown-start (s .pre))
+g0 s = grown-rest-equal (head-pieces (s .args .s) (s .args .n)) (grown-start (s .pre))
 
 g1 : (c : tie.After-copy-in) → let a = c .before .before .before .before .before .args in Grown (a .out .now) (a .at) (headBytes (a .s) (a .n)) (c .copy-in .last .0) (c .copy-in .result) (settingsWords (a .s) ++ zeros 42)
 g1 c =
@@ -44,7 +44,7 @@ copy-in-requires-2 : tie.Need-copy-in-requires-2
 copy-in-requires-2 c κs = rw (c .before .before .settings-words .ensures) (grown-space (settingsWords _) _ (g1 (c .before .before .before .before .before)))
 
 put-zeros-requires : tie.Need-put-zeros-requires
-put-zeros-requires c κs = space-last (g2 (c .before .before .before))
+put-zeros-requires c κs = grown-last-fits (g2 (c .before .before .before))
 
 same-length : tie.Need-same-length
 same-length c = search needs
@@ -52,7 +52,7 @@ same-length c = search needs
 returns : tie.Need-returns
 returns c =
     let z = c .before .before in
-    finish-last (zeros 42) (g2 (z .before .before .before .before)) (z .put-zeros .ensures .0) (z .put-zeros .ensures .1)
+    grown-last (zeros 42) (g2 (z .before .before .before .before)) (z .put-zeros .ensures .0) (z .put-zeros .ensures .1)
 
 pub put-head-spec : {M : Type 1} → statement M
 put-head-spec =

@@ -7,7 +7,7 @@ use native.Mathlib.Omega.{arith}
 use native.Mathlib.Nat.{add-zero}
 use borrow.Author.Needs.{needs}
 use lib.ListN.{length, getD, drop}
-use Rattle.prelude.specs.Laws.Grown.{Grown, grown-start, grown-space, grown-more, grown-turn, grown-end}
+use Rattle.prelude.specs.Laws.Grown.{Grown, grown-start, grown-space, grown-more, grown-rest-equal, grown-end}
 use Rattle.calendar.specs.File.{firstUnit}
 use Rattle.calendar_writer.specs.DayLists.{mostDays}
 use Rattle.calendar_writer.specs.Sums.{unitsFor, mostUnits, descriptorOf, sumTable}
@@ -26,7 +26,7 @@ ahead : (c : tie.After-alarms-in Inv-loop μ-loop) → let l = c .before .before
 ahead c =
     let l = c .before .before .before .before .before in
     let a = l .before .before .before .args in
-    rw (c .alarms-in .ensures) (grown-turn (table-some (a .sums .now) (l .loop .k) (a .first + l .loop .k) (l .loop .u) (omega arith) (c .before .before .if1 .taken)) (l .loop .inv .0))
+    rw (c .alarms-in .ensures) (grown-rest-equal (table-some (a .sums .now) (l .loop .k) (a .first + l .loop .k) (l .loop .u) (omega arith) (c .before .before .if1 .taken)) (l .loop .inv .0))
 
 loop-holds : tie.Need-loop-holds Inv-loop μ-loop
 loop-holds c =
@@ -69,7 +69,7 @@ loop-again c =
     let left = drop (l .loop .k + 1) (a .sums .now) in
     let e : a .first + l .loop .k + 1 ≡ a .first + (l .loop .k + 1) = omega arith in
     let u : l .loop .u + unitsFor (getD (a .sums .now) (l .loop .k) 0) ≡ l .loop .u + c .units-for .result = ap (λ (v : ℕ). l .loop .u + v) (sym (c .units-for .ensures)) in (
-      grown-turn (ap (λ (d : ℕ). sumTable d (l .loop .u + unitsFor (getD (a .sums .now) (l .loop .k) 0)) left) e ∙ ap (λ (v : ℕ). sumTable (a .first + (l .loop .k + 1)) v left) u)
+      grown-rest-equal (ap (λ (d : ℕ). sumTable d (l .loop .u + unitsFor (getD (a .sums .now) (l .loop .k) 0)) left) e ∙ ap (λ (v : ℕ). sumTable (a .first + (l .loop .k + 1)) v left) u)
           (grown-more (descriptorOf _ _ _) (ahead t) (p .put-descriptor .ensures .0) (p .put-descriptor .ensures .1)),
       omega arith,
       omega (arith, c .units-for .ensures),
@@ -83,7 +83,7 @@ loop-again-2 c =
     let l = c .before .before .before in
     let a = l .before .before .before .args in
     let e : a .first + l .loop .k + 1 ≡ a .first + (l .loop .k + 1) = omega arith in (
-      grown-turn (table-none (a .sums .now) (l .loop .k) (a .first + l .loop .k) (l .loop .u) (omega arith) (omega arith) ∙ ap (λ (d : ℕ). sumTable d (l .loop .u) (drop (l .loop .k + 1) (a .sums .now))) e) (l .loop .inv .0),
+      grown-rest-equal (table-none (a .sums .now) (l .loop .k) (a .first + l .loop .k) (l .loop .u) (omega arith) (omega arith) ∙ ap (λ (d : ℕ). sumTable d (l .loop .u) (drop (l .loop .k + 1) (a .sums .now))) e) (l .loop .inv .0),
       omega arith,
       omega arith,
     )
@@ -95,7 +95,7 @@ returns : tie.Need-returns Inv-loop μ-loop
 returns c =
     let l = c .before in
     let a = l .before .before .before .args in
-    grown-end (grown-turn (table-end (a .sums .now) (l .loop .k) (a .first + l .loop .k) (l .loop .u) (omega arith)) (l .loop .inv .0))
+    grown-end (grown-rest-equal (table-end (a .sums .now) (l .loop .k) (a .first + l .loop .k) (l .loop .u) (omega arith)) (l .loop .inv .0))
 
 pub put-table-spec : {M : Type 1} → statement M
 put-table-spec =

@@ -5,7 +5,7 @@ use mathlib.Core.Path.{_≡_}
 use mathlib.Core.List.{[], _∷_, _++_}
 use native.Mathlib.Omega.{arith}
 use lib.ListN.{length, length-replicate}
-use Rattle.prelude.specs.Laws.Grown.{Grown, grown-start, grown-more, grown-turn, grown-end, set-splice}
+use Rattle.prelude.specs.Laws.Grown.{Grown, grown-start, grown-more, grown-rest-equal, grown-end, set-splice}
 use Rattle.calendar.specs.File.{zeros}
 use Rattle.calendar_writer.proofs.puts.put_zeros.Statement.{statement}
 use Rattle.calendar_writer.proofs.puts.put_zeros.Tie as tie
@@ -48,7 +48,7 @@ loop-again : tie.Need-loop-again Inv-loop μ-loop
 loop-again c =
     let l = c .before in
     let a = l .before .args in (
-      grown-more (0 ∷ []) (grown-turn (zeros-more (a .n) (l .loop .j) (omega arith)) (l .loop .inv .0)) (omega arith) (set-splice _ (a .at + l .loop .j) 0 (omega (arith, length-zeros (a .n)))),
+      grown-more (0 ∷ []) (grown-rest-equal (zeros-more (a .n) (l .loop .j) (omega arith)) (l .loop .inv .0)) (omega arith) (set-splice _ (a .at + l .loop .j) 0 (omega (arith, length-zeros (a .n)))),
       omega arith,
     )
 
@@ -63,7 +63,7 @@ returns c =
     let l = c .before in
     let a = l .before .args in
     let e : a .n - l .loop .j ≡ 0 = omega arith in
-    grown-end (grown-turn (zeros-none e) (l .loop .inv .0))
+    grown-end (grown-rest-equal (zeros-none e) (l .loop .inv .0))
 
 pub put-zeros-spec : {M : Type 1} → statement M
 put-zeros-spec =

@@ -9,7 +9,7 @@ use Rattle.chains.specs.Laws.Marks.{heads-in}
 use Rattle.chains.specs.Laws.Linked.{judged-linked}
 use Rattle.chains.specs.Stages.{ChainsEnd}
 use Rattle.chains.specs.Laws.Theorem.{chains-end}
-use Rattle.chains.specs.Laws.Stages.{stop-entries, stop-heads, stop-links, all-judged}
+use Rattle.chains.specs.Laws.Stages.{stop-entries, stop-heads, stop-links, chains-judged-order}
 use Rattle.chains.proofs.checking.judge_all.Statement.{statement}
 use Rattle.chains.proofs.checking.judge_all.Tie as tie
 
@@ -82,7 +82,7 @@ returns-4 c =
     let d = c .before .before .before in
     let b = d .before .before .before in
     let a = b .before .before .before in
-    all-judged _ _ _ _ _ _ (counted a) (a .judge-entries .ensures) (b .before .enum-told .given .1) (b .judge-heads .ensures) (d .before .enum-told2 .given .1) (d .judge-links .ensures) (c .before .enum-told3 .given .1) (c .judge-order .ensures)
+    chains-judged-order _ _ _ _ _ _ (counted a) (a .judge-entries .ensures) (b .before .enum-told .given .1) (b .judge-heads .ensures) (d .before .enum-told2 .given .1) (d .judge-links .ensures) (c .before .enum-told3 .given .1) (c .judge-order .ensures)
 
 pub judge-all-spec : {M : Type 1} → statement M
 judge-all-spec =

@@ -5,7 +5,7 @@ use mathlib.Core.Path.{_≡_, sym, _∙_}
 use native.Mathlib.Omega.{arith}
 use borrow.Author.Needs.{needs}
 use Rattle.prelude.specs.Verdicts.{inTurn}
-use Rattle.prelude.specs.Laws.Verdicts.{turn-start, turn-fine, turn-refused, turn-none}
+use Rattle.prelude.specs.Laws.Verdicts.{in-turn-first, in-turn-fine, in-turn-refused, in-turn-past}
 use Rattle.chains.specs.Chains.{linksVerdict}
 use Rattle.chains.proofs.links.judge_links.Statement.{statement}
 use Rattle.chains.proofs.links.judge_links.Tie as tie
@@ -17,7 +17,7 @@ abbrev μ-loop : tie.MeasureT-loop
 μ-loop table days previous next i₀ i = days - i
 
 loop-holds : tie.Need-loop-holds Inv-loop μ-loop
-loop-holds c = (omega arith, turn-start _ _)
+loop-holds c = (omega arith, in-turn-first _ _)
 
 head-at-requires : tie.Need-head-at-requires Inv-loop μ-loop
 head-at-requires c κs = omega arith
@@ -35,16 +35,16 @@ loop-less : tie.Need-loop-less Inv-loop μ-loop
 loop-less c = omega arith
 
 loop-again : tie.Need-loop-again Inv-loop μ-loop
-loop-again c = (omega arith, c .before .before .before .before .before .loop .inv .1 ∙ turn-fine _ _ _ (omega arith) (rw (c .before .before .before .head-at .ensures) at (c .before .before .judge-chain .ensures)) (c .enum-told .given .1))
+loop-again c = (omega arith, c .before .before .before .before .before .loop .inv .1 ∙ in-turn-fine _ _ _ (omega arith) (rw (c .before .before .before .head-at .ensures) at (c .before .before .judge-chain .ensures)) (c .enum-told .given .1))
 
 enum-known-e : tie.Need-enum-known-e Inv-loop μ-loop
 enum-known-e c = search needs
 
 returns : tie.Need-returns Inv-loop μ-loop
-returns c = sym (c .before .before .before .before .before .before .loop .inv .1 ∙ turn-refused _ _ _ (omega arith) (rw (c .before .before .before .before .head-at .ensures) at (c .before .before .before .judge-chain .ensures)) (c .before .e .given .1))
+returns c = sym (c .before .before .before .before .before .before .loop .inv .1 ∙ in-turn-refused _ _ _ (omega arith) (rw (c .before .before .before .before .head-at .ensures) at (c .before .before .before .judge-chain .ensures)) (c .before .e .given .1))
 
 returns-2 : tie.Need-returns-2 Inv-loop μ-loop
-returns-2 c = sym (c .before .loop .inv .1 ∙ turn-none _ _ _ (omega arith))
+returns-2 c = sym (c .before .loop .inv .1 ∙ in-turn-past _ _ _ (omega arith))
 
 pub judge-links-spec : {M : Type 1} → statement M
 judge-links-spec =

@@ -4,7 +4,7 @@ use Prim.Native.Nat.{_-_, _≤_}
 use mathlib.Core.Path.{_≡_, refl, sym, ap, _∙_}
 use native.Mathlib.Omega.{arith}
 use Rattle.prelude.specs.Verdicts.{inTurn}
-use Rattle.prelude.specs.Laws.Verdicts.{bad-refused, good-fine, turn-start, turn-fine, turn-refused, turn-none}
+use Rattle.prelude.specs.Laws.Verdicts.{unless-bad-true, unless-bad-false, in-turn-first, in-turn-fine, in-turn-refused, in-turn-past}
 use Rattle.chains.specs.Chains.{entryBad, entryVerdict}
 use Rattle.chains.specs.Dates.{leastDate}
 use Rattle.chains.specs.Laws.Dates.{day-judged, next-least}
@@ -21,7 +21,7 @@ sub-days : tie.Need-sub-days Inv-loop μ-loop
 sub-days c = omega arith
 
 loop-holds : tie.Need-loop-holds Inv-loop μ-loop
-loop-holds c = (omega arith, refl, turn-start _ _)
+loop-holds c = (omega arith, refl, in-turn-first _ _)
 
 date-at-requires : tie.Need-date-at-requires Inv-loop μ-loop
 date-at-requires c κs = omega arith
@@ -39,7 +39,7 @@ judged a =
     day-judged _ (d .date-at .ensures .2) _ (omega arith) (a .before .head-at .ensures) (d .date-at .ensures .0) (d .before .before .loop .inv .1) (a .day-bad .ensures)
 
 returns : tie.Need-returns Inv-loop μ-loop
-returns c = sym (c .before .before .before .before .before .loop .inv .2 ∙ turn-refused _ _ _ (omega arith) refl (bad-refused _ _ (sym (judged (c .before)) ∙ c .if1 .taken)))
+returns c = sym (c .before .before .before .before .before .loop .inv .2 ∙ in-turn-refused _ _ _ (omega arith) refl (unless-bad-true _ _ (sym (judged (c .before)) ∙ c .if1 .taken)))
 
 add-low : tie.Need-add-low Inv-loop μ-loop
 add-low c = omega arith
@@ -55,7 +55,7 @@ loop-again c =
     let l = c .before .before .before .before .before .loop in (
       omega arith,
       next-least (c .before .before .before .before .before .before .before .args .table .now) (l .i) (omega arith),
-      l .inv .2 ∙ turn-fine _ _ _ (omega arith) refl (good-fine _ _ (sym (judged (c .before)) ∙ c .if1 .left)),
+      l .inv .2 ∙ in-turn-fine _ _ _ (omega arith) refl (unless-bad-false _ _ (sym (judged (c .before)) ∙ c .if1 .left)),
     )
 
 last-bad-requires : tie.Need-last-bad-requires Inv-loop μ-loop
@@ -68,12 +68,12 @@ at-last a = omega arith
 returns-2 : tie.Need-returns-2 Inv-loop μ-loop
 returns-2 c =
     let l = c .before .before .before .loop in
-    sym (l .inv .2 ∙ turn-refused _ _ _ (omega arith) (ap (entryVerdict _) (at-last (c .before))) (bad-refused _ _ (sym (c .before .last-bad .ensures) ∙ c .if2 .taken)))
+    sym (l .inv .2 ∙ in-turn-refused _ _ _ (omega arith) (ap (entryVerdict _) (at-last (c .before))) (unless-bad-true _ _ (sym (c .before .last-bad .ensures) ∙ c .if2 .taken)))
 
 returns-3 : tie.Need-returns-3 Inv-loop μ-loop
 returns-3 c =
     let l = c .before .before .before .loop in
-    sym (l .inv .2 ∙ turn-fine _ _ _ (omega arith) (ap (entryVerdict _) (at-last (c .before))) (good-fine _ _ (sym (c .before .last-bad .ensures) ∙ c .if2 .left)) ∙ turn-none _ _ _ (omega arith))
+    sym (l .inv .2 ∙ in-turn-fine _ _ _ (omega arith) (ap (entryVerdict _) (at-last (c .before))) (unless-bad-false _ _ (sym (c .before .last-bad .ensures) ∙ c .if2 .left)) ∙ in-turn-past _ _ _ (omega arith))
 
 pub judge-entries-spec : {M : Type 1} → statement M
 judge-entries-spec =

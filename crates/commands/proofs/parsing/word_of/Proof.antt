@@ -1,7 +1,7 @@
 -- `word_of` meets its contract: each return is the choice that its tests make.
 -- Assumes nothing.
 use mathlib.Core.Path.{ap}
-use Rattle.prelude.specs.Laws.Choice.{picks, by-yes}
+use Rattle.prelude.specs.Laws.Choice.{picks, if-by-true}
 use Rattle.commands.specs.Words.{wordOf}
 use Rattle.commands.specs.declared.types.Word.{Word}
 use borrow.Author.Needs.{needs}
@@ -16,7 +16,7 @@ number-of-requires c κs = search needs
 
 returns : tie.Need-returns
 unfolding wordOf
-returns c = by-yes _ _ _ (c .before .before .is-number .ensures) (c .before .if1 .taken) (ap Word.Number (c .number-of .ensures))
+returns c = if-by-true _ _ _ (c .before .before .is-number .ensures) (c .before .if1 .taken) (ap Word.Number (c .number-of .ensures))
 
 is-spelled-requires : tie.Need-is-spelled-requires
 is-spelled-requires c κs = search needs

@@ -5,7 +5,7 @@ use Prim.Native.Nat.{ℕ, _+_, _≤_}
 use mathlib.Core.List.{List, [], _∷_, _++_}
 use native.Mathlib.Omega.{arith}
 use lib.ListN.{length}
-use Rattle.prelude.specs.Laws.Grown.{Grown, grown-start, grown-space, space-last, grown-more, finish-last}
+use Rattle.prelude.specs.Laws.Grown.{Grown, grown-start, grown-space, grown-last-fits, grown-more, grown-last}
 use Rattle.digits.specs.Digits.{decimal}
 use Rattle.printing.specs.Printed.{newline, space as blank}
 use Rattle.commands.specs.Responses.{refusalText}
@@ -55,7 +55,7 @@ put-decimal-requires-2 : tie.Need-put-decimal-requires-2
 put-decimal-requires-2 c κs = grown-space (decimal _) _ (g2 (c .before .before .before))
 
 put-byte-requires-2 : tie.Need-put-byte-requires-2
-put-byte-requires-2 c κs = space-last (g3 (c .before .before .before))
+put-byte-requires-2 c κs = grown-last-fits (g3 (c .before .before .before))
 
 same-length : tie.Need-same-length
 same-length c = search needs
@@ -64,7 +64,7 @@ returns : tie.Need-returns
 returns c =
     let l = c .before .before in
     let p = l .before .before .before .before in
-    let f = finish-last _ (g3 p) (l .put-byte2 .ensures .0) (l .put-byte2 .ensures .1) in
+    let f = grown-last _ (g3 p) (l .put-byte2 .ensures .0) (l .put-byte2 .ensures .1) in
     let m = room (s3 p) in
     (omega arith, (f .1, omega arith))
 

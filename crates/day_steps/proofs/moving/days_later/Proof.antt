@@ -7,7 +7,7 @@ use borrow.Author.Needs.{needs}
 use Rattle.days.specs.Facts.{factsOf, nextFacts}
 use Rattle.days.specs.Laws.Facts.{facts-next}
 use Rattle.day_steps.specs.Moves.{FactsAt}
-use Rattle.day_steps.specs.Laws.Moves.{at-day, day-is, at-inside}
+use Rattle.day_steps.specs.Laws.Moves.{facts-at-day, day-of-facts, facts-at-day-of-month}
 use Rattle.day_steps.proofs.moving.days_later.Statement.{statement}
 use Rattle.day_steps.proofs.moving.days_later.Tie as tie
 
@@ -28,12 +28,12 @@ loop-holds : tie.Need-loop-holds Inv-loop μ-loop
 loop-holds c = (c .pre, refl)
 
 rest-of-requires : tie.Need-rest-of-requires Inv-loop μ-loop
-rest-of-requires c κs = at-inside (c .loop .inv .0) (omega arith)
+rest-of-requires c κs = facts-at-day-of-month (c .loop .inv .0) (omega arith)
 
 in-month-requires : tie.Need-in-month-requires Inv-loop μ-loop
 in-month-requires c κs =
     let l = c .before .before in
-    let h = at-inside (l .loop .inv .0) (omega arith) in
+    let h = facts-at-day-of-month (l .loop .inv .0) (omega arith) in
     let r = c .before .rest-of .ensures in
     (l .loop .inv .0, omega arith)
 
@@ -43,7 +43,7 @@ returns c = c .in-month .ensures ∙ ap factsOf (c .before .before .before .loop
 in-month-requires-2 : tie.Need-in-month-requires-2 Inv-loop μ-loop
 in-month-requires-2 c κs =
     let l = c .before .before in
-    let h = at-inside (l .loop .inv .0) (omega arith) in
+    let h = facts-at-day-of-month (l .loop .inv .0) (omega arith) in
     let r = c .before .rest-of .ensures in
     let m = l .loop .inv .0 .high in
     (record { facts = l .loop .inv .0 .facts; high = omega arith }, omega arith)
@@ -63,9 +63,9 @@ loop-less c = omega arith
 loop-again : tie.Need-loop-again Inv-loop μ-loop
 loop-again c =
     let l = c .before .before .before .before in
-    let d = day-is (next c) in
+    let d = day-of-facts (next c) in
     let m = l .loop .inv .0 .high in
-    (at-day _ (next c) (omega arith), omega arith)
+    (facts-at-day _ (next c) (omega arith), omega arith)
 
 pub days-later-spec : {M : Type 1} → statement M
 days-later-spec =

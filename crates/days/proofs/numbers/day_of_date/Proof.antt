@@ -1,6 +1,6 @@
 -- `day_of_date` meets its contract: the day's number where `is_real` says yes, else refused.
 -- Assumes nothing.
-use Rattle.prelude.specs.Laws.Choice.{picks, by-yes}
+use Rattle.prelude.specs.Laws.Choice.{picks, if-by-true}
 use mathlib.Core.Path.{sym, _∙_}
 use Rattle.days.specs.Answers.{dayAnswer}
 use Rattle.days.specs.Laws.Dates.{valid-facts}
@@ -16,7 +16,7 @@ day-of-requires c κs = valid-facts (sym (c .before .is-real .ensures) ∙ c .if
 
 returns : tie.Need-returns
 unfolding dayAnswer
-returns c = by-yes _ _ _ (c .before .before .is-real .ensures) (c .before .if1 .taken) (cc)
+returns c = if-by-true _ _ _ (c .before .before .is-real .ensures) (c .before .if1 .taken) (cc)
 
 returns-2 : tie.Need-returns-2
 unfolding dayAnswer

@@ -9,7 +9,7 @@ use lib.ListN.{length-set}
 use Rattle.prelude.specs.Laws.Grown.{set-splice}
 use Rattle.digits.specs.Digits.{decimal}
 use Rattle.digits.specs.Laws.Decimal.{decimal-one, decimal-more, length-positive, length-one}
-use Rattle.digits.specs.Laws.Backed.{Backed, back-start, back-grow, back-finish}
+use Rattle.digits.specs.Laws.Backed.{Backed, backed-none, backed-before, backed-all}
 use Rattle.digits.proofs.puts.put_decimal.Statement.{statement}
 use Rattle.digits.proofs.puts.put_decimal.Tie as tie
 
@@ -26,7 +26,7 @@ add-end : tie.Need-add-end Inv-loop μ-loop
 add-end c = omega arith
 
 loop-holds : tie.Need-loop-holds Inv-loop μ-loop
-loop-holds c = (back-start (c .before .before .pre) (omega arith), omega arith)
+loop-holds c = (backed-none (c .before .before .pre) (omega arith), omega arith)
 
 sub-i : tie.Need-sub-i Inv-loop μ-loop
 sub-i c = omega (arith, length-positive (c .before .loop .left))
@@ -54,7 +54,7 @@ loop-again c =
     let l = c .before in
     let p = length-positive (l .loop .left) in
     let e : 48 + l .loop .left % 10 ≡ 48 + (l .loop .left - 10 * (l .loop .left / 10)) = omega arith in (
-      back-grow _ (rw (decimal-more {n = l .loop .left} (omega arith), e) at (l .loop .inv .0)) (omega arith) (set-splice _ (l .loop .i - 1) _ (omega arith)),
+      backed-before _ (rw (decimal-more {n = l .loop .left} (omega arith), e) at (l .loop .inv .0)) (omega arith) (set-splice _ (l .loop .i - 1) _ (omega arith)),
       omega arith,
     )
 
@@ -75,7 +75,7 @@ returns c =
     let l = c .before in
     let p = length-one {n = l .loop .left} (omega arith) in (
       omega arith,
-      back-finish (back-grow {front = []} _ (rw (decimal-one {n = l .loop .left} (omega arith)) at (l .loop .inv .0)) (omega arith) (set-splice _ (l .before .before .before .args .at) _ (omega arith))),
+      backed-all (backed-before {front = []} _ (rw (decimal-one {n = l .loop .left} (omega arith)) at (l .loop .inv .0)) (omega arith) (set-splice _ (l .before .before .before .args .at) _ (omega arith))),
     )
 
 pub put-decimal-spec : {M : Type 1} → statement M

@@ -3,7 +3,7 @@
 use borrow.Author.Needs.{needs}
 use Prim.Native.Nat.{_/_}
 use mathlib.Core.List.{_++_}
-use Rattle.prelude.specs.Laws.Grown.{Grown, grown-start, grown-space, space-last, grown-more, finish-last}
+use Rattle.prelude.specs.Laws.Grown.{Grown, grown-start, grown-space, grown-last-fits, grown-more, grown-last}
 use Rattle.digits.specs.Digits.{two, four}
 use Rattle.digits.proofs.puts.put_four.Statement.{statement}
 use Rattle.digits.proofs.puts.put_four.Tie as tie
@@ -20,7 +20,7 @@ put-two-requires : tie.Need-put-two-requires
 put-two-requires c κs = grown-space (two _) _ (g0 (c .before .before))
 
 put-two-requires-2 : tie.Need-put-two-requires-2
-put-two-requires-2 c κs = space-last (g1 (c .before .before .before))
+put-two-requires-2 c κs = grown-last-fits (g1 (c .before .before .before))
 
 same-length : tie.Need-same-length
 same-length c = search needs
@@ -28,7 +28,7 @@ same-length c = search needs
 returns : tie.Need-returns
 returns c =
     let l = c .before .before in
-    finish-last _ (g1 (l .before .before .before .before)) (l .put-two2 .ensures .0) (l .put-two2 .ensures .1)
+    grown-last _ (g1 (l .before .before .before .before)) (l .put-two2 .ensures .0) (l .put-two2 .ensures .1)
 
 pub put-four-spec : {M : Type 1} → statement M
 put-four-spec = tie.close (tie.spec put-two-requires put-two-requires-2 same-length returns)

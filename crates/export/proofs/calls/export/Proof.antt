@@ -3,7 +3,7 @@
 use mathlib.Core.Path.{refl, sym, _∙_}
 use Rattle.export.specs.Export.{exportFrom, leavesFile, showsUnder}
 use Rattle.export.specs.Laws.Theorem.{demand-3-promised}
-use Rattle.export.specs.Laws.Export.{answer-is, left-is}
+use Rattle.export.specs.Laws.Export.{export-answer-from, export-leaves-from}
 use borrow.Author.Needs.{needs}
 use Rattle.export.proofs.calls.export.Statement.{statement}
 use Rattle.export.proofs.calls.export.Tie as tie
@@ -29,8 +29,8 @@ returns c =
     let a = h .before .before .before in
     let r = a .before .before in
     let s = r .before .before .before .args in
-    let e = answer-is (showsUnder (s .c)) (s .file .now) (s .first .0) (s .count) (s .out .now) (sym (r .read-book .ensures) ∙ a .a .given .1) (h .export-in .ensures .0) in
-    let l = left-is (showsUnder (s .c)) (s .file .now) (s .first .0) (s .count) (s .out .now) e (h .export-in .ensures .1) in
+    let e = export-answer-from (showsUnder (s .c)) (s .file .now) (s .first .0) (s .count) (s .out .now) (sym (r .read-book .ensures) ∙ a .a .given .1) (h .export-in .ensures .0) in
+    let l = export-leaves-from (showsUnder (s .c)) (s .file .now) (s .first .0) (s .count) (s .out .now) e (h .export-in .ensures .1) in
     (e, (l, demand-3-promised (showsUnder (s .c)) (s .file .now) (s .first .0) (s .count) (s .out .now) e l))
 
 returns-2 : tie.Need-returns-2
@@ -39,8 +39,8 @@ returns-2 c =
     let a = c .before in
     let r = a .before .before in
     let s = r .before .before .before .args in
-    let e = answer-is (showsUnder (s .c)) (s .file .now) (s .first .0) (s .count) (s .out .now) (sym (r .read-book .ensures) ∙ a .a2 .given .1) refl in
-    let l = left-is (showsUnder (s .c)) (s .file .now) (s .first .0) (s .count) (s .out .now) e refl in
+    let e = export-answer-from (showsUnder (s .c)) (s .file .now) (s .first .0) (s .count) (s .out .now) (sym (r .read-book .ensures) ∙ a .a2 .given .1) refl in
+    let l = export-leaves-from (showsUnder (s .c)) (s .file .now) (s .first .0) (s .count) (s .out .now) e refl in
     (e, (l, demand-3-promised (showsUnder (s .c)) (s .file .now) (s .first .0) (s .count) (s .out .now) e l))
 
 pub export-spec : {M : Type 1} → statement M

@@ -8,7 +8,7 @@ use lib.ListN.{length}
 use Rattle.prelude.specs.Laws.Choice.{is-true, is-false}
 use Rattle.export.specs.Export.{spanOk, exportFile, spanAnswer, exportFrom, leavesFile, showsUnder}
 use Rattle.export.specs.Laws.Answers.{Span, span-facts}
-use Rattle.export.specs.Laws.Export.{first-facts, first-not, left-span}
+use Rattle.export.specs.Laws.Export.{first-facts, first-day-not-refused, span-leaves-leaves-file}
 use borrow.Author.Needs.{needs}
 use Rattle.export.proofs.calls.export_in.Statement.{statement}
 use Rattle.export.proofs.calls.export_in.Tie as tie
@@ -56,7 +56,7 @@ returns c =
       h .export-span .ensures .0
           ∙ ap (λ (n : ℕ). spanAnswer (showsUnder (s .c)) (s .file .now) n (s .count) (length (s .out .now))) d
           ∙ sym (is-true (fine t) _ _),
-      left-span (showsUnder (s .c)) (s .file .now) _ (s .count) (s .out .now) (h .export-span .ensures .0) (h .export-span .ensures .1)
+      span-leaves-leaves-file (showsUnder (s .c)) (s .file .now) _ (s .count) (s .out .now) (h .export-span .ensures .0) (h .export-span .ensures .1)
           ∙ ap (λ (n : ℕ). leavesFile (exportFile (showsUnder (s .c)) (s .file .now) n (s .count)) (s .out .now) (h .export-span .result)) d,
     )
 
@@ -65,7 +65,7 @@ returns-2 c =
     let a = c .before in
     let f = a .before .before in
     let t = f .before in
-    absurd (first-not (t .before .before .before .before .args .first .0) (span t .day) (sym (f .facts-of-day .ensures) ∙ a .a2 .given .1))
+    absurd (first-day-not-refused (t .before .before .before .before .args .first .0) (span t .day) (sym (f .facts-of-day .ensures) ∙ a .a2 .given .1))
 
 returns-3 : tie.Need-returns-3
 unfolding exportFrom leavesFile

@@ -8,7 +8,7 @@ use Rattle.calendar_writer.specs.Sums.{rows, unitsTo, noneYet}
 use Rattle.export.specs.Passes.{marked, soFar}
 use Rattle.calendar_writer.specs.Scatter.{FilledBlocks}
 use Rattle.calendar_writer.specs.Laws.Filling.{filled-self, filled-over}
-use Rattle.export.specs.Laws.Ready.{ready-sound, ready-long, blank-long, ready-start, ready-room, ready-next, ready-whole}
+use Rattle.export.specs.Laws.Ready.{ready-sound, ready-long, blank-long, filled-so-far-zero, ready-room, filled-so-far-suc, ready-whole}
 use Rattle.export.proofs.filling.put_days.Statement.{statement}
 use Rattle.export.proofs.filling.put_days.Tie as tie
 
@@ -41,7 +41,7 @@ loop-holds c =
     let s = start-of p in
     let r = s .pre .1 .0 in
     let g = filled-self (omega (arith, room s)) (p .put-blanks .ensures .1) in
-    (ready-start r (s .args .interval) (omega (arith, room s)) g, omega arith, omega (arith, s .pre .1 .1 .0), omega (arith, room s))
+    (filled-so-far-zero r (s .args .interval) (omega (arith, room s)) g, omega arith, omega (arith, s .pre .1 .1 .0), omega (arith, room s))
 
 mul-code : tie.Need-mul-code Inv-loop μ-loop
 mul-code c = omega arith
@@ -69,7 +69,7 @@ loop-again c =
     let s = start-of (blanks l) in
     let r = s .pre .1 .0 in
     let e = h .fill-code .ensures in
-    (ready-next r (s .args .interval) (l .loop .inv .3) (omega arith) (l .loop .inv .0) (e .0) (e .1), omega arith, e .0 .long ∙ l .loop .inv .2, l .loop .inv .3)
+    (filled-so-far-suc r (s .args .interval) (l .loop .inv .3) (omega arith) (l .loop .inv .0) (e .0) (e .1), omega arith, e .0 .long ∙ l .loop .inv .2, l .loop .inv .3)
 
 same-length : tie.Need-same-length Inv-loop μ-loop
 same-length c =

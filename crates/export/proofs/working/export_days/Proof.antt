@@ -13,7 +13,7 @@ use Rattle.export.specs.Laws.Answers.{span-written}
 use Rattle.export.specs.Passes.{CountedBook, marked}
 use Rattle.export.specs.Invariants.{Gathered}
 use Rattle.export.specs.Laws.Books.{marked-shows}
-use Rattle.export.specs.Laws.Export.{collect-gathered, Measures, gathered-measures, span-is, span-left}
+use Rattle.export.specs.Laws.Export.{collect-gathered, Measures, gathered-measures, span-answer-sized, span-leaves-from}
 use borrow.Author.Needs.{needs}
 use Rattle.export.proofs.working.export_days.Statement.{statement}
 use Rattle.export.proofs.working.export_days.Tie as tie
@@ -66,7 +66,7 @@ answer : (t : tie.After-answer-for) → let a = start-of (t .before) .args in t 
 answer t =
     let m = t .before in
     let a = start-of m .args in
-    span-is (showsUnder (a .q .choice)) (a .file .now) (a .q .first .day .0) (length (a .days .now)) (length (a .out .now)) (past m) (long m) (t .answer-for .ensures)
+    span-answer-sized (showsUnder (a .q .choice)) (a .file .now) (a .q .first .day .0) (length (a .days .now)) (length (a .out .now)) (past m) (long m) (t .answer-for .ensures)
 
 pack-days-requires : tie.Need-pack-days-requires
 pack-days-requires c κs =
@@ -140,7 +140,7 @@ returns c =
     let m = t .before in
     let a = start-of m .args in
     let e = sym (x .a .given .1) ∙ answer t in
-    (e, span-left (showsUnder (a .q .choice)) (a .file .now) (a .q .first .day .0) (length (a .days .now)) (a .out .now) e (h .fill .ensures ∙ ap (λ (n : ℕ). splice (a .out .now) 0 (exportFile (showsUnder (a .q .choice)) (a .file .now) (a .q .first .day .0) n)) (count m)))
+    (e, span-leaves-from (showsUnder (a .q .choice)) (a .file .now) (a .q .first .day .0) (length (a .days .now)) (a .out .now) e (h .fill .ensures ∙ ap (λ (n : ℕ). splice (a .out .now) 0 (exportFile (showsUnder (a .q .choice)) (a .file .now) (a .q .first .day .0) n)) (count m)))
 
 same-length-7 : tie.Need-same-length-7
 same-length-7 c = search needs
@@ -158,7 +158,7 @@ returns-2 c =
     let t = x .before .before in
     let a = start-of (t .before) .args in
     let e = sym (x .a2 .given .1) ∙ answer t in
-    (e, span-left (showsUnder (a .q .choice)) (a .file .now) (a .q .first .day .0) (length (a .days .now)) (a .out .now) e refl)
+    (e, span-leaves-from (showsUnder (a .q .choice)) (a .file .now) (a .q .first .day .0) (length (a .days .now)) (a .out .now) e refl)
 
 pub export-days-spec : {M : Type 1} → statement M
 export-days-spec =

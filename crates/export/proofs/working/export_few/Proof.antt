@@ -6,13 +6,13 @@ use native.Mathlib.Omega.{arith}
 use lib.ListN.{length, take}
 use Rattle.calendar.specs.File.{zeros}
 use Rattle.export.specs.Export.{spanAnswer, spanLeaves, showsUnder}
-use Rattle.export.specs.Laws.Export.{front-long, front-below}
+use Rattle.export.specs.Laws.Export.{length-take-zeros, take-zeros-at-most}
 use borrow.Author.Needs.{needs}
 use Rattle.export.proofs.working.export_few.Statement.{statement}
 use Rattle.export.proofs.working.export_few.Tie as tie
 
 long : (s : tie.Start) → length (take (s .args .count) (zeros 32)) ≡ s .args .count
-long s = front-long 32 (s .args .count) (s .pre .1 .0)
+long s = length-take-zeros 32 (s .args .count) (s .pre .1 .0)
 
 array-borrow-prefix-days : tie.Need-array-borrow-prefix-days
 array-borrow-prefix-days c = search needs
@@ -44,7 +44,7 @@ export-days-requires c κs =
     let e = long s in
     let v = s .pre .0 in (
       record { book = v .book; facts = v .facts; end = omega (arith, e, v .end); most = omega (arith, e, v .most) },
-      record { each-sum = refl; clear = front-below 32 (s .args .count) (s .pre .1 .0); each-place = refl; all-codes = s .pre .1 .1; all-spare = omega arith },
+      record { each-sum = refl; clear = take-zeros-at-most 32 (s .args .count) (s .pre .1 .0); each-place = refl; all-codes = s .pre .1 .1; all-spare = omega arith },
     )
 
 same-length : tie.Need-same-length

@@ -6,14 +6,14 @@ use native.Mathlib.Omega.{arith}
 use lib.ListN.{length, take}
 use Rattle.calendar.specs.File.{zeros}
 use Rattle.export.specs.Export.{spanAnswer, spanLeaves, showsUnder}
-use Rattle.export.specs.Laws.Export.{front-long, front-below, records-most}
+use Rattle.export.specs.Laws.Export.{length-take-zeros, take-zeros-at-most, records-most}
 use borrow.Author.Needs.{needs}
 use Rattle.calendar_writer.specs.DayLists.{mostDays}
 use Rattle.export.proofs.working.export_many.Statement.{statement}
 use Rattle.export.proofs.working.export_many.Tie as tie
 
 long : (s : tie.Start) → length (take (s .args .count) (zeros mostDays)) ≡ s .args .count
-long s = front-long mostDays (s .args .count) (s .pre .most)
+long s = length-take-zeros mostDays (s .args .count) (s .pre .most)
 
 array-borrow-prefix-days : tie.Need-array-borrow-prefix-days
 array-borrow-prefix-days c = search needs
@@ -45,7 +45,7 @@ export-days-requires c κs =
     let e = long s in
     let v = s .pre in (
       record { book = v .book; facts = v .facts; end = omega (arith, e, v .end); most = omega (arith, e, v .most) },
-      record { each-sum = refl; clear = front-below mostDays (s .args .count) (s .pre .most); each-place = refl; all-codes = records-most (s .args .file .now) (v .book); all-spare = omega arith },
+      record { each-sum = refl; clear = take-zeros-at-most mostDays (s .args .count) (s .pre .most); each-place = refl; all-codes = records-most (s .args .file .now) (v .book); all-spare = omega arith },
     )
 
 same-length : tie.Need-same-length

@@ -5,7 +5,7 @@ use mathlib.Core.Path.{_≡_, sym, ap}
 use mathlib.Core.List.{List, _++_}
 use native.Mathlib.Omega.{arith}
 use lib.ListN.{length}
-use Rattle.prelude.specs.Laws.Grown.{Grown, grown-start, grown-space, space-last, grown-more, grown-turn, finish-last}
+use Rattle.prelude.specs.Laws.Grown.{Grown, grown-start, grown-space, grown-last-fits, grown-more, grown-rest-equal, grown-last}
 use Rattle.calendar.specs.File.{Day, zeros, headBytes, fileOf}
 use Rattle.export.specs.Export.{appointmentsFor, showsUnder}
 use Rattle.calendar_writer.specs.DayLists.{daysWith, mostDays}
@@ -34,7 +34,7 @@ few s = omega (arith, s .pre .1 .1 .0, s .pre .1 .1 .1 .1 .0, ready-few (s .pre 
 g0 : (c : tie.After-first-unit) → let s = from c in let a = s .args in let u = c .first-unit .result in Grown (a .out .now) 0 (fileOf (a .s) (days s)) (a .out .now) 0 (headBytes (a .s) (a .n) ++ (sumTable (a .first) u (a .sums .now) ++ (zeros (64 * u - (64 + 12 * a .n)) ++ last s)))
 g0 c =
     let s = from c in
-    grown-turn (ready-file (s .pre .1 .0) (s .args .s) (s .pre .1 .1 .1 .1 .0) (c .first-unit .ensures)) (grown-start (s .pre .1 .1 .1 .1 .1))
+    grown-rest-equal (ready-file (s .pre .1 .0) (s .args .s) (s .pre .1 .1 .1 .1 .0) (c .first-unit .ensures)) (grown-start (s .pre .1 .1 .1 .1 .1))
 
 g1 : (c : tie.After-put-head) → let v = c .before .before in let s = from v in let a = s .args in let u = v .first-unit .result in Grown (a .out .now) 0 (fileOf (a .s) (days s)) (c .put-head .last .0) (c .put-head .result) (sumTable (a .first) u (a .sums .now) ++ (zeros (64 * u - (64 + 12 * a .n)) ++ last s))
 g1 c = grown-more (headBytes _ _) (g0 (c .before .before)) (c .put-head .ensures .0) (c .put-head .ensures .1)
@@ -53,7 +53,7 @@ gap c = 64 * c .before .before .before .before .before .before .first-unit .resu
 g2 : (c : tie.After-put-table) → let v = c .before .before .before .before .before .before in let s = from v in let a = s .args in let u = v .first-unit .result in Grown (a .out .now) 0 (fileOf (a .s) (days s)) (c .put-table .last .0) (c .put-table .result) (zeros (64 * u - c .put-table .result) ++ last s)
 g2 c =
     let v = c .before .before .before .before .before .before in
-    grown-turn (ap (λ (n : ℕ). zeros (64 * v .first-unit .result - n) ++ last (from v)) (sym (behind c))) (grown-more (sumTable _ _ _) (g1 (c .before .before .before .before)) (c .put-table .ensures .0) (c .put-table .ensures .1))
+    grown-rest-equal (ap (λ (n : ℕ). zeros (64 * v .first-unit .result - n) ++ last (from v)) (sym (behind c))) (grown-more (sumTable _ _ _) (g1 (c .before .before .before .before)) (c .put-table .ensures .0) (c .put-table .ensures .1))
 
 g3 : (c : tie.After-put-zeros) → let v = c .before .before .before .before .before .before .before .before .before .before in let s = from v in let a = s .args in Grown (a .out .now) 0 (fileOf (a .s) (days s)) (c .put-zeros .last .0) (c .put-zeros .result) (last s)
 g3 c = let t = c .before .before .before .before in grown-more (zeros (gap t)) (g2 t) (c .put-zeros .ensures .0) (c .put-zeros .ensures .1)
@@ -89,7 +89,7 @@ put-days-requires : tie.Need-put-days-requires
 put-days-requires c κs =
     let z = c .before .before .before .before in
     let s = from (z .before .before .before .before .before .before .before .before .before .before) in
-    (s .pre .0, (s .pre .1 .0, (s .pre .1 .1 .1 .0, space-last (g3 z))))
+    (s .pre .0, (s .pre .1 .0, (s .pre .1 .1 .1 .0, grown-last-fits (g3 z))))
 
 same-length : tie.Need-same-length
 same-length c = search needs
@@ -100,7 +100,7 @@ same-length-2 c = search needs
 returns : tie.Need-returns
 returns c =
     let d = c .before .before .before .before in
-    finish-last (rows _ _ _ _) (g3 (d .before .before .before .before .before)) (d .put-days .ensures .0) (d .put-days .ensures .1)
+    grown-last (rows _ _ _ _) (g3 (d .before .before .before .before .before)) (d .put-days .ensures .0) (d .put-days .ensures .1)
 
 pub put-file-spec : {M : Type 1} → statement M
 put-file-spec =

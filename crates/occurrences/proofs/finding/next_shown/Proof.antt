@@ -12,7 +12,7 @@ use Rattle.day_steps.specs.Codes.{dayCode}
 use Rattle.occurrences.specs.Rules.{ruleShows, waitFor}
 use Rattle.occurrences.specs.Laws.Waits.{wait-least}
 use Rattle.day_steps.specs.Moves.{FactsAt}
-use Rattle.day_steps.specs.Laws.Moves.{Reaches, at-day, day-is, at-known}
+use Rattle.day_steps.specs.Laws.Moves.{Reaches, facts-at-day, day-of-facts, facts-at-known}
 use Rattle.occurrences.specs.Laws.Find.{start-reaches, search-shown, Free, free-join, free-before, free-after, free-wait}
 use Rattle.occurrences.specs.Laws.Next.{next-hit, next-end}
 use Rattle.occurrences.proofs.finding.next_shown.Statement.{statement}
@@ -54,7 +54,7 @@ loop-holds : tie.Need-loop-holds Inv-loop μ-loop
 loop-holds c = (reached c .at, omega arith, λ d l m. absurd (omega arith))
 
 day-code-requires : tie.Need-day-code-requires Inv-loop μ-loop
-day-code-requires c κs = at-known (c .loop .inv .0) (omega arith)
+day-code-requires c κs = facts-at-known (c .loop .inv .0) (omega arith)
 
 date-in-requires : tie.Need-date-in-requires Inv-loop μ-loop
 date-in-requires c κs = search needs
@@ -105,16 +105,16 @@ loop-less : tie.Need-loop-less Inv-loop μ-loop
 loop-less c =
     let l = c .before .before .before .before .before .before .before .before .before .before in
     let h = l .loop .inv .0 .high in
-    let d = day-is (c .days-later .ensures) in
+    let d = day-of-facts (c .days-later .ensures) in
     omega (arith, wait-least (l .before .before .args .r) (dayCode (factsOf (l .loop .g .day .0))), waits (c .before .before .before))
 
 loop-again : tie.Need-loop-again Inv-loop μ-loop
 loop-again c =
     let l = c .before .before .before .before .before .before .before .before .before .before in
     let h = l .loop .inv .0 .high in
-    let d = day-is (c .days-later .ensures) in
+    let d = day-of-facts (c .days-later .ensures) in
     let w = waits (c .before .before .before) in
-    (at-day _ (c .days-later .ensures) (omega arith), omega arith, free-join _ _ (l .loop .inv .2) (free-wait _ _ _ (here (c .before .before .before .before)) (omega arith) (omega arith)))
+    (facts-at-day _ (c .days-later .ensures) (omega arith), omega arith, free-join _ _ (l .loop .inv .2) (free-wait _ _ _ (here (c .before .before .before .before)) (omega arith) (omega arith)))
 
 pub next-shown-spec : {M : Type 1} → statement M
 next-shown-spec =

@@ -12,8 +12,8 @@ use Rattle.days.specs.declared.types.Minute.{Minute}
 use Rattle.book.specs.Laws.Books.{Cursor, cursor-first, cursor-ahead}
 use Rattle.pages.specs.Pages.{Numbered, numbered, fallsOn}
 use Rattle.pages.specs.Codes.{codeWith, code}
-use Rattle.pages.specs.Laws.Codes.{code-at, codes-push, codes-behind, none-left}
-use Rattle.pages.specs.Laws.Pages.{numberedAt, numbered-first, Turn, record-turn, turn-yes, turn-no, turn-end}
+use Rattle.pages.specs.Laws.Codes.{code-at, codes-push, codes-behind, append-nil-whole}
+use Rattle.pages.specs.Laws.Pages.{numberedAt, numbered-first, Turn, numbered-cursor, keep-numbered-yes, keep-numbered-no, keep-numbered-end}
 use Rattle.pages.specs.Invariants.{recordAt}
 use Rattle.pages.proofs.collecting.collect.Statement.{statement}
 use Rattle.pages.proofs.collecting.collect.Tie as tie
@@ -33,7 +33,7 @@ abbrev falling : tie.After-f Inv-loop μ-loop → Numbered → Bool
 falling c = fallsOn (c .before .before .before .args .c) (c .before .before .before .args .a .facts)
 
 turned : (c : tie.After-next-place Inv-loop μ-loop) → Turn (file (c .before .before .before .before)) (c .before .before .before .loop .n) (c .before .before .before .loop .at)
-turned c = record-turn _ _ _ (c .before .before .before .loop .inv .0) (omega arith)
+turned c = numbered-cursor _ _ _ (c .before .before .before .loop .inv .0) (omega arith)
 
 loop-holds : tie.Need-loop-holds Inv-loop μ-loop
 loop-holds c = (
@@ -77,7 +77,7 @@ loop-again c =
     let l = c .before .before .before .before .before .before .before in
     let h = l .loop .inv .0 .here in
     let t = turned (c .before .before .before .before) in
-    let e = turn-yes (file (l .before)) (l .loop .n) (l .loop .at) t (falling (l .before)) (sym (c .before .before .before .falls-at .ensures) ∙ c .before .before .if2 .taken) in
+    let e = keep-numbered-yes (file (l .before)) (l .loop .n) (l .loop .at) t (falling (l .before)) (sym (c .before .before .before .falls-at .ensures) ∙ c .before .before .if2 .taken) in
     let v : c .code-of .result ≡ code (recordAt (file (l .before)) (l .loop .n) (l .loop .at)) =
     c .code-of .ensures ∙ ap (λ (x : Minute). codeWith (x .0) (l .loop .n) (l .loop .at)) (c .before .start-at .ensures) ∙ sym (code-at (file (l .before)) (l .loop .n) (l .loop .at) (omega arith) (omega arith)) in
     let w = l .loop .inv .4 ∙ ap (λ (xs : List Numbered). take (l .loop .count) (l .loop .codes) ++ map code xs) e ∙ ap (λ (x : ℕ). take (l .loop .count) (l .loop .codes) ++ (x ∷ map code (keep (falling (l .before)) (numberedAt (file (l .before)) (suc (l .loop .n)))))) (sym v) in
@@ -90,7 +90,7 @@ loop-again-2 : tie.Need-loop-again-2 Inv-loop μ-loop
 loop-again-2 c =
     let l = c .before .before .before .before .before in
     let t = turned (c .before .before) in
-    let e = turn-no (file (l .before)) (l .loop .n) (l .loop .at) t (falling (l .before)) (sym (c .before .falls-at .ensures) ∙ c .if2 .left) in
+    let e = keep-numbered-no (file (l .before)) (l .loop .n) (l .loop .at) t (falling (l .before)) (sym (c .before .falls-at .ensures) ∙ c .if2 .left) in
     let w = l .loop .inv .4 ∙ ap (λ (xs : List Numbered). take (l .loop .count) (l .loop .codes) ++ map code xs) e in
     rw (add-one (l .loop .n), c .before .before .next-place .ensures) (t .next, omega arith, omega arith, l .loop .inv .3, w, l .loop .inv .5)
 
@@ -100,8 +100,8 @@ same-length c = c .before .before .loop .inv .3
 returns : tie.Need-returns Inv-loop μ-loop
 returns c =
     let l = c .before .before in
-    let e = ap (map code) (turn-end (file (l .before)) (l .loop .n) (falling (l .before)) (omega arith)) in
-    (omega arith, (none-left _ _ (l .loop .inv .4) e, l .loop .inv .5))
+    let e = ap (map code) (keep-numbered-end (file (l .before)) (l .loop .n) (falling (l .before)) (omega arith)) in
+    (omega arith, (append-nil-whole _ _ (l .loop .inv .4) e, l .loop .inv .5))
 
 pub collect-spec : {M : Type 1} → statement M
 collect-spec =

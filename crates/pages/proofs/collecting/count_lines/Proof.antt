@@ -11,7 +11,7 @@ use lib.ListN.{length}
 use Rattle.sorting.specs.Keep.{keep}
 use Rattle.book.specs.Laws.Books.{Cursor, cursor-first, cursor-ahead}
 use Rattle.pages.specs.Pages.{Numbered, numbered, fallsOn}
-use Rattle.pages.specs.Laws.Pages.{numberedAt, numbered-first, Turn, record-turn, turn-yes, turn-no, turn-end, length-page}
+use Rattle.pages.specs.Laws.Pages.{numberedAt, numbered-first, Turn, numbered-cursor, keep-numbered-yes, keep-numbered-no, keep-numbered-end, length-page}
 use Rattle.pages.proofs.collecting.count_lines.Statement.{statement}
 use Rattle.pages.proofs.collecting.count_lines.Tie as tie
 
@@ -30,7 +30,7 @@ abbrev falling : tie.After-f Inv-loop μ-loop → Numbered → Bool
 falling c = fallsOn (c .before .before .args .c) (c .before .before .args .a .facts)
 
 turned : (c : tie.After-next-place Inv-loop μ-loop) → Turn (file (c .before .before .before .before)) (c .before .before .before .loop .n) (c .before .before .before .loop .at)
-turned c = record-turn _ _ _ (c .before .before .before .loop .inv .0) (omega arith)
+turned c = numbered-cursor _ _ _ (c .before .before .before .loop .inv .0) (omega arith)
 
 loop-holds : tie.Need-loop-holds Inv-loop μ-loop
 loop-holds c = (
@@ -59,7 +59,7 @@ loop-again : tie.Need-loop-again Inv-loop μ-loop
 loop-again c =
     let l = c .before .before .before .before .before in
     let t = turned (c .before .before) in
-    let e = ap (length {A = Numbered}) (turn-yes (file (l .before)) (l .loop .n) (l .loop .at) t (falling (l .before)) (sym (c .before .falls-at .ensures) ∙ c .if2 .taken)) in
+    let e = ap (length {A = Numbered}) (keep-numbered-yes (file (l .before)) (l .loop .n) (l .loop .at) t (falling (l .before)) (sym (c .before .falls-at .ensures) ∙ c .if2 .taken)) in
     rw (add-one (l .loop .n), c .before .before .next-place .ensures) (t .next, omega arith, omega arith, omega (arith, l .loop .inv .3, e))
 
 loop-less-2 : tie.Need-loop-less-2 Inv-loop μ-loop
@@ -69,13 +69,13 @@ loop-again-2 : tie.Need-loop-again-2 Inv-loop μ-loop
 loop-again-2 c =
     let l = c .before .before .before .before .before in
     let t = turned (c .before .before) in
-    let e = ap (length {A = Numbered}) (turn-no (file (l .before)) (l .loop .n) (l .loop .at) t (falling (l .before)) (sym (c .before .falls-at .ensures) ∙ c .if2 .left)) in
+    let e = ap (length {A = Numbered}) (keep-numbered-no (file (l .before)) (l .loop .n) (l .loop .at) t (falling (l .before)) (sym (c .before .falls-at .ensures) ∙ c .if2 .left)) in
     rw (add-one (l .loop .n), c .before .before .next-place .ensures) (t .next, omega arith, omega arith, omega (arith, l .loop .inv .3, e))
 
 returns : tie.Need-returns Inv-loop μ-loop
 returns c =
     let l = c .before .before in
-    let e = ap (length {A = Numbered}) (turn-end (file (l .before)) (l .loop .n) (falling (l .before)) (omega arith)) in
+    let e = ap (length {A = Numbered}) (keep-numbered-end (file (l .before)) (l .loop .n) (falling (l .before)) (omega arith)) in
     omega (arith, l .loop .inv .3, e, length-page (falling (l .before)) (file (l .before)))
 
 pub count-lines-spec : {M : Type 1} → statement M

@@ -1,4 +1,4 @@
--- `search_on` meets its contract: the search by the day found, by `next-is`.
+-- `search_on` meets its contract: the search by the day found, by `next-of-first`.
 -- Assumes nothing.
 use Prim.Native.Nat.{_+_}
 use mathlib.Core.Path.{_≡_, sym, _∙_}
@@ -8,7 +8,7 @@ use Rattle.prelude.specs.Laws.Choice.{is-lt, is-ge}
 use Rattle.days.specs.Days.{lastDay}
 use Rattle.occurrences.specs.Laws.Find.{search-shown}
 use Rattle.pages.specs.Next.{foundOn, noneFrom, nextOf}
-use Rattle.pages.specs.Laws.Next.{next-is}
+use Rattle.pages.specs.Laws.Next.{next-of-first}
 use borrow.Author.Needs.{needs}
 use Rattle.pages.proofs.next.search_on.Statement.{statement}
 use Rattle.pages.proofs.next.search_on.Tie as tie
@@ -17,7 +17,7 @@ use Rattle.pages.proofs.next.search_on.Tie as tie
 found : (c : tie.After-next-shown) → (let a = c .before .args in nextOf (search-shown (a .c) (a .r)) (a .from .day .0) ≡ ifLt (c .next-shown .result) (lastDay + 1) (foundOn (a .from .day .0) (c .next-shown .result)) (noneFrom (a .from .day .0)))
 found c =
     let s = c .before in
-    next-is (search-shown (s .args .c) (s .args .r)) (s .args .from .day .0) (s .pre .high) (c .next-shown .ensures)
+    next-of-first (search-shown (s .args .c) (s .args .r)) (s .args .from .day .0) (s .pre .high) (c .next-shown .ensures)
 
 next-shown-requires : tie.Need-next-shown-requires
 next-shown-requires c κs = search needs

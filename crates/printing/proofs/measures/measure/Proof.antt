@@ -11,7 +11,7 @@ use lib.ListN.{length}
 use Rattle.sorting.specs.Keep.{keep}
 use Rattle.book.specs.Laws.Books.{Cursor, cursor-first, cursor-ahead}
 use Rattle.pages.specs.Pages.{Numbered, numbered, fallsOn}
-use Rattle.pages.specs.Laws.Pages.{numberedAt, numbered-first, Turn, record-turn, turn-yes, turn-no, turn-end, length-page}
+use Rattle.pages.specs.Laws.Pages.{numberedAt, numbered-first, Turn, numbered-cursor, keep-numbered-yes, keep-numbered-no, keep-numbered-end, length-page}
 use Rattle.pages.specs.Invariants.{recordAt}
 use Rattle.sorting.specs.Totals.{total}
 use Rattle.sorting.specs.Laws.Totals.{total-nil, total-cons}
@@ -35,7 +35,7 @@ abbrev falling : tie.After-f Inv-loop μ-loop → Numbered → Bool
 falling c = fallsOn (c .before .before .args .c) (c .before .before .args .a .facts)
 
 turned : (c : tie.After-next-place Inv-loop μ-loop) → Turn (file (c .before .before .before .before)) (c .before .before .before .loop .n) (c .before .before .before .loop .at)
-turned c = record-turn _ _ _ (c .before .before .before .loop .inv .0) (omega arith)
+turned c = numbered-cursor _ _ _ (c .before .before .before .loop .inv .0) (omega arith)
 
 -- all records that fall on the day are few and small
 most : (c : tie.After-f Inv-loop μ-loop) → (total (lineSize (file c)) (keep (falling c) (numbered (file c))) + length (keep (falling c) (numbered (file c))) ≤ 65535)
@@ -45,7 +45,7 @@ most c = let b = book-most (file c) (falling c) (c .before .before .pre .long) i
 one : (c : tie.After-line-size Inv-loop μ-loop) → let l = c .before .before .before .before .before .before in keep (falling (l .before)) (numberedAt (file (l .before)) (l .loop .n)) ≡ recordAt (file (l .before)) (l .loop .n) (l .loop .at) ∷ keep (falling (l .before)) (numberedAt (file (l .before)) (suc (l .loop .n)))
 one c =
     let l = c .before .before .before .before .before .before in
-    turn-yes (file (l .before)) (l .loop .n) (l .loop .at) (turned (c .before .before .before)) (falling (l .before)) (sym (c .before .before .falls-at .ensures) ∙ c .before .if2 .taken)
+    keep-numbered-yes (file (l .before)) (l .loop .n) (l .loop .at) (turned (c .before .before .before)) (falling (l .before)) (sym (c .before .before .falls-at .ensures) ∙ c .before .if2 .taken)
 
 added : (c : tie.After-line-size Inv-loop μ-loop) → let l = c .before .before .before .before .before .before in total (lineSize (file (l .before))) (keep (falling (l .before)) (numberedAt (file (l .before)) (l .loop .n))) ≡ c .line-size .result + total (lineSize (file (l .before))) (keep (falling (l .before)) (numberedAt (file (l .before)) (suc (l .loop .n))))
 added c =
@@ -100,7 +100,7 @@ loop-again-2 : tie.Need-loop-again-2 Inv-loop μ-loop
 loop-again-2 c =
     let l = c .before .before .before .before .before in
     let t = turned (c .before .before) in
-    let k = turn-no (file (l .before)) (l .loop .n) (l .loop .at) t (falling (l .before)) (sym (c .before .falls-at .ensures) ∙ c .if2 .left) in
+    let k = keep-numbered-no (file (l .before)) (l .loop .n) (l .loop .at) t (falling (l .before)) (sym (c .before .falls-at .ensures) ∙ c .if2 .left) in
     let e = ap (length {A = Numbered}) k in
     let b = ap (total (lineSize (file (l .before)))) k in
     rw (add-one (l .loop .n), c .before .before .next-place .ensures) (t .next, omega arith, omega (arith, l .loop .inv .2, e), omega (arith, l .loop .inv .3, b))
@@ -108,7 +108,7 @@ loop-again-2 c =
 returns : tie.Need-returns Inv-loop μ-loop
 returns c =
     let l = c .before .before in
-    let k = turn-end (file (l .before)) (l .loop .n) (falling (l .before)) (omega arith) in
+    let k = keep-numbered-end (file (l .before)) (l .loop .n) (falling (l .before)) (omega arith) in
     let e = ap (length {A = Numbered}) k in
     let b = ap (total (lineSize (file (l .before)))) k ∙ total-nil (lineSize (file (l .before))) in
     (omega (arith, l .loop .inv .2, e, length-page (falling (l .before)) (file (l .before))), omega (arith, l .loop .inv .3, b, page-bytes (falling (l .before)) (file (l .before))))

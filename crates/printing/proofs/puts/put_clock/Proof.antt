@@ -3,7 +3,7 @@
 use borrow.Author.Needs.{needs}
 use Prim.Native.Nat.{ℕ, _/_, _%_}
 use mathlib.Core.List.{List, [], _∷_, _++_}
-use Rattle.prelude.specs.Laws.Grown.{Grown, grown-start, grown-space, space-last, grown-more, finish-last}
+use Rattle.prelude.specs.Laws.Grown.{Grown, grown-start, grown-space, grown-last-fits, grown-more, grown-last}
 use Rattle.digits.specs.Digits.{two}
 use Rattle.printing.specs.Printed.{colon, clock}
 use Rattle.printing.proofs.puts.put_clock.Statement.{statement}
@@ -36,7 +36,7 @@ put-byte-requires : tie.Need-put-byte-requires
 put-byte-requires c κs = grown-space (colon ∷ []) _ (g1 (c .before .before .before))
 
 put-two-requires-2 : tie.Need-put-two-requires-2
-put-two-requires-2 c κs = space-last (g2 (c .before .before .before))
+put-two-requires-2 c κs = grown-last-fits (g2 (c .before .before .before))
 
 same-length : tie.Need-same-length
 same-length c = search needs
@@ -44,7 +44,7 @@ same-length c = search needs
 returns : tie.Need-returns
 returns c =
     let l = c .before .before in
-    finish-last _ (g2 (l .before .before .before .before)) (l .put-two2 .ensures .0) (l .put-two2 .ensures .1)
+    grown-last _ (g2 (l .before .before .before .before)) (l .put-two2 .ensures .0) (l .put-two2 .ensures .1)
 
 pub put-clock-spec : {M : Type 1} → statement M
 put-clock-spec = tie.close (tie.spec put-two-requires put-byte-requires put-two-requires-2 same-length returns)

@@ -3,7 +3,7 @@
 use borrow.Author.Needs.{needs}
 use Prim.Native.Nat.{ℕ}
 use mathlib.Core.List.{List, [], _∷_, _++_}
-use Rattle.prelude.specs.Laws.Grown.{Grown, grown-start, grown-space, space-last, grown-more, finish-last}
+use Rattle.prelude.specs.Laws.Grown.{Grown, grown-start, grown-space, grown-last-fits, grown-more, grown-last}
 use Rattle.digits.specs.Digits.{two, four}
 use Rattle.printing.specs.Printed.{dash, dateText}
 use Rattle.printing.proofs.puts.put_date.Statement.{statement}
@@ -54,7 +54,7 @@ put-byte-requires-2 : tie.Need-put-byte-requires-2
 put-byte-requires-2 c κs = grown-space (dash ∷ []) _ (g3 (c .before .before .before))
 
 put-two-requires-2 : tie.Need-put-two-requires-2
-put-two-requires-2 c κs = space-last (g4 (c .before .before .before))
+put-two-requires-2 c κs = grown-last-fits (g4 (c .before .before .before))
 
 same-length : tie.Need-same-length
 same-length c = search needs
@@ -62,7 +62,7 @@ same-length c = search needs
 returns : tie.Need-returns
 returns c =
     let l = c .before .before in
-    finish-last _ (g4 (l .before .before .before .before)) (l .put-two2 .ensures .0) (l .put-two2 .ensures .1)
+    grown-last _ (g4 (l .before .before .before .before)) (l .put-two2 .ensures .0) (l .put-two2 .ensures .1)
 
 pub put-date-spec : {M : Type 1} → statement M
 put-date-spec = tie.close (tie.spec put-four-requires put-byte-requires put-two-requires put-byte-requires-2 put-two-requires-2 same-length returns)

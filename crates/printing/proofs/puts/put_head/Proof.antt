@@ -3,7 +3,7 @@
 use borrow.Author.Needs.{needs}
 use Prim.Native.Nat.{ℕ}
 use mathlib.Core.List.{List, [], _∷_, _++_}
-use Rattle.prelude.specs.Laws.Grown.{Grown, grown-start, grown-space, space-last, grown-more, finish-last}
+use Rattle.prelude.specs.Laws.Grown.{Grown, grown-start, grown-space, grown-last-fits, grown-more, grown-last}
 use Rattle.digits.specs.Digits.{decimal}
 use Rattle.printing.specs.Printed.{newline, space as blank, dateText, weekdayName, headLine}
 use Rattle.printing.proofs.puts.put_head.Statement.{statement}
@@ -63,7 +63,7 @@ put-decimal-requires : tie.Need-put-decimal-requires
 put-decimal-requires c κs = grown-space (decimal _) _ (g4 (c .before .before .before))
 
 put-byte-requires-3 : tie.Need-put-byte-requires-3
-put-byte-requires-3 c κs = space-last (g5 (c .before .before .before))
+put-byte-requires-3 c κs = grown-last-fits (g5 (c .before .before .before))
 
 same-length : tie.Need-same-length
 same-length c = search needs
@@ -71,7 +71,7 @@ same-length c = search needs
 returns : tie.Need-returns
 returns c =
     let l = c .before .before in
-    finish-last _ (g5 (l .before .before .before .before)) (l .put-byte3 .ensures .0) (l .put-byte3 .ensures .1)
+    grown-last _ (g5 (l .before .before .before .before)) (l .put-byte3 .ensures .0) (l .put-byte3 .ensures .1)
 
 pub put-head-spec : {M : Type 1} → statement M
 put-head-spec = tie.close (tie.spec put-date-requires put-byte-requires put-weekday-requires put-byte-requires-2 put-decimal-requires put-byte-requires-3 same-length returns)

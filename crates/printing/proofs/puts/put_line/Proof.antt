@@ -4,7 +4,7 @@ use borrow.Author.Needs.{needs}
 use Prim.Native.Nat.{ℕ}
 use mathlib.Core.List.{List, [], _∷_, _++_}
 use Rattle.prelude.specs.Bytes.{stretchBytes}
-use Rattle.prelude.specs.Laws.Grown.{Grown, grown-start, grown-space, space-last, grown-more, finish-last}
+use Rattle.prelude.specs.Laws.Grown.{Grown, grown-start, grown-space, grown-last-fits, grown-more, grown-last}
 use Rattle.printing.specs.Printed.{newline, space as blank, dash, clock, pageLine}
 use Rattle.printing.proofs.puts.put_line.Statement.{statement}
 use Rattle.printing.proofs.puts.put_line.Tie as tie
@@ -70,7 +70,7 @@ copy-in-requires c κs =
     rw (c .before .part .ensures) (grown-space (stretchBytes (s .args .file .now) (s .args .l .text)) _ (g4 (c .before .before .before .before)))
 
 put-byte-requires-3 : tie.Need-put-byte-requires-3
-put-byte-requires-3 c κs = space-last (g5 (c .before .before .before))
+put-byte-requires-3 c κs = grown-last-fits (g5 (c .before .before .before))
 
 same-length : tie.Need-same-length
 same-length c = search needs
@@ -78,7 +78,7 @@ same-length c = search needs
 returns : tie.Need-returns
 returns c =
     let l = c .before .before in
-    finish-last _ (g5 (l .before .before .before .before)) (l .put-byte3 .ensures .0) (l .put-byte3 .ensures .1)
+    grown-last _ (g5 (l .before .before .before .before)) (l .put-byte3 .ensures .0) (l .put-byte3 .ensures .1)
 
 pub put-line-spec : {M : Type 1} → statement M
 put-line-spec = tie.close (tie.spec put-clock-requires put-byte-requires put-clock-requires-2 put-byte-requires-2 part-requires copy-in-requires put-byte-requires-3 same-length returns)

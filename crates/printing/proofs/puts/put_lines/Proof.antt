@@ -6,7 +6,7 @@ use mathlib.Core.List.{_++_}
 use native.Mathlib.Omega.{arith}
 use borrow.Author.Needs.{needs}
 use lib.ListN.{length, drop}
-use Rattle.prelude.specs.Laws.Grown.{Grown, grown-start, grown-space, grown-more, grown-turn, grown-end}
+use Rattle.prelude.specs.Laws.Grown.{Grown, grown-start, grown-space, grown-more, grown-rest-equal, grown-end}
 use Rattle.pages.specs.declared.types.Line.{Line}
 use Rattle.printing.specs.Printed.{pageLine, pageLines}
 use Rattle.printing.specs.Coded.{codedLines}
@@ -27,7 +27,7 @@ next : (c : tie.After-line-of Inv-loop μ-loop) → let l = c .before .before .b
 next c =
     let l = c .before .before .before in
     let a = l .before .before .before .before .args in
-    grown-turn (lines-next (a .file .now) (a .codes .now) (l .loop .i) (omega arith) ∙ ap (λ (x : Line). pageLine (a .file .now) x ++ pageLines (a .file .now) (codedLines (a .file .now) (drop (l .loop .i + 1) (a .codes .now)))) (sym (c .line-of .ensures))) (l .loop .inv)
+    grown-rest-equal (lines-next (a .file .now) (a .codes .now) (l .loop .i) (omega arith) ∙ ap (λ (x : Line). pageLine (a .file .now) x ++ pageLines (a .file .now) (codedLines (a .file .now) (drop (l .loop .i + 1) (a .codes .now)))) (sym (c .line-of .ensures))) (l .loop .inv)
 
 loop-holds : tie.Need-loop-holds Inv-loop μ-loop
 loop-holds c = grown-start (c .before .before .before .pre)
@@ -62,7 +62,7 @@ returns : tie.Need-returns Inv-loop μ-loop
 returns c =
     let l = c .before in
     let a = l .before .before .before .before .args in
-    grown-end (grown-turn (lines-end (a .file .now) (a .codes .now) (l .loop .i) (omega arith)) (l .loop .inv))
+    grown-end (grown-rest-equal (lines-end (a .file .now) (a .codes .now) (l .loop .i) (omega arith)) (l .loop .inv))
 
 pub put-lines-spec : {M : Type 1} → statement M
 put-lines-spec =

@@ -5,7 +5,7 @@ use Prim.Native.Nat.{ℕ, _-_}
 use mathlib.Core.Path.{_≡_, refl, _∙_, ap}
 use mathlib.Core.Bool.{true}
 use lib.ListN.{getD}
-use Rattle.prelude.specs.Laws.Choice.{b-yes, b-no, by-yes, by-no}
+use Rattle.prelude.specs.Laws.Choice.{b-yes, b-no, if-by-true, if-by-false}
 use Rattle.prelude.specs.Bytes.{word}
 use Rattle.records.specs.Fields.{textLength, noteLength}
 use Rattle.records.specs.Bodies.{lengthsOk, textsOk, judgeBody}
@@ -79,17 +79,17 @@ returns-4 : tie.Need-returns-4
 unfolding judgeBody
 returns-4 c =
     b-yes _ _ (fit (c .before .before .before .before))
-    (by-yes _ _ _ (c .before .before .before .fields-ok .ensures) (c .before .before .if4 .taken) (by-yes _ _ _ (texts (c .before)) (c .if5 .taken) refl))
+    (if-by-true _ _ _ (c .before .before .before .fields-ok .ensures) (c .before .before .if4 .taken) (if-by-true _ _ _ (texts (c .before)) (c .if5 .taken) refl))
 
 returns-5 : tie.Need-returns-5
 unfolding judgeBody
 returns-5 c =
     b-yes _ _ (fit (c .before .before .before .before))
-    (by-yes _ _ _ (c .before .before .before .fields-ok .ensures) (c .before .before .if4 .taken) (by-no _ _ _ (texts (c .before)) (c .if5 .left) refl))
+    (if-by-true _ _ _ (c .before .before .before .fields-ok .ensures) (c .before .before .if4 .taken) (if-by-false _ _ _ (texts (c .before)) (c .if5 .left) refl))
 
 returns-6 : tie.Need-returns-6
 unfolding judgeBody
-returns-6 c = b-yes _ _ (fit (c .before .before)) (by-no _ _ _ (c .before .fields-ok .ensures) (c .if4 .left) refl)
+returns-6 c = b-yes _ _ (fit (c .before .before)) (if-by-false _ _ _ (c .before .fields-ok .ensures) (c .if4 .left) refl)
 
 pub judge-body-spec : {M : Type 1} → statement M
 judge-body-spec =

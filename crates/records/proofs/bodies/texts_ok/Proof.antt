@@ -2,7 +2,7 @@
 -- Assumes nothing.
 use mathlib.Core.Path.{refl}
 use native.Mathlib.Nat.{add-sub-cancel-left}
-use Rattle.prelude.specs.Laws.Choice.{by-yes, by-no}
+use Rattle.prelude.specs.Laws.Choice.{if-by-true, if-by-false}
 use borrow.Author.Needs.{needs}
 use Rattle.records.proofs.bodies.texts_ok.Statement.{statement}
 use Rattle.records.proofs.bodies.texts_ok.Tie as tie
@@ -28,12 +28,12 @@ note-ok-at-requires c κs = search needs
 returns : tie.Need-returns
 returns c =
     let a = c .before .before .before .before .before .args in
-    by-yes _ _ _ (cc (add-sub-cancel-left (a .fixed) (a .text))) (c .before .if1 .taken) (c .note-ok-at .ensures)
+    if-by-true _ _ _ (cc (add-sub-cancel-left (a .fixed) (a .text))) (c .before .if1 .taken) (c .note-ok-at .ensures)
 
 returns-2 : tie.Need-returns-2
 returns-2 c =
     let a = c .before .before .before .before .args in
-    by-no _ _ _ (cc (add-sub-cancel-left (a .fixed) (a .text))) (c .if1 .left) refl
+    if-by-false _ _ _ (cc (add-sub-cancel-left (a .fixed) (a .text))) (c .if1 .left) refl
 
 pub texts-ok-spec : {M : Type 1} → statement M
 texts-ok-spec =

@@ -1,6 +1,6 @@
 -- `check_off_clean` meets its contract: each return is the choice that its tests make.
 -- Assumes nothing.
-use Rattle.prelude.specs.Laws.Choice.{picks, by-no}
+use Rattle.prelude.specs.Laws.Choice.{picks, if-by-false}
 use Rattle.records.specs.Ranges.{checkOffClean}
 use borrow.Author.Needs.{needs}
 use Rattle.records.proofs.ranges.check_off_clean.Statement.{statement}
@@ -27,7 +27,7 @@ three-zeros-requires c κs = search needs
 
 returns-2 : tie.Need-returns-2
 unfolding checkOffClean
-returns-2 c = by-no _ _ _ (cc) (c .before .before .before .before .if1 .left) (cc)
+returns-2 c = if-by-false _ _ _ (cc) (c .before .before .before .before .if1 .left) (cc)
 
 pub check-off-clean-spec : {M : Type 1} → statement M
 check-off-clean-spec =

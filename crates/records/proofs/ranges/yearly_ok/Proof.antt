@@ -1,6 +1,6 @@
 -- `yearly_ok` meets its contract: each return is the choice that its tests make.
 -- Assumes nothing.
-use Rattle.prelude.specs.Laws.Choice.{by-yes, by-no}
+use Rattle.prelude.specs.Laws.Choice.{if-by-true, if-by-false}
 use mathlib.Core.Path.{refl}
 use Rattle.records.specs.Ranges.{yearlyOk}
 use borrow.Author.Needs.{needs}
@@ -18,11 +18,11 @@ repeat-ok-requires c κs = search needs
 
 returns : tie.Need-returns
 unfolding yearlyOk
-returns c = by-yes _ _ _ (cc) (c .before .if1 .taken) (cc)
+returns c = if-by-true _ _ _ (cc) (c .before .if1 .taken) (cc)
 
 returns-2 : tie.Need-returns-2
 unfolding yearlyOk
-returns-2 c = by-no _ _ _ (cc) (c .if1 .left) refl
+returns-2 c = if-by-false _ _ _ (cc) (c .if1 .left) refl
 
 pub yearly-ok-spec : {M : Type 1} → statement M
 yearly-ok-spec =

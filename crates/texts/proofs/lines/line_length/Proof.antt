@@ -5,7 +5,7 @@ use Prim.Native.Nat.{ℕ, _+_, _-_, _≤_}
 use mathlib.Core.Path.{sym}
 use lib.ListN.{length, drop, length-drop}
 use borrow.Author.Needs.{needs}
-use Rattle.texts.specs.Laws.Notes.{to-zero-le, WithinNote, within-start, within-next, within-step, within-zero, end-here}
+use Rattle.texts.specs.Laws.Notes.{to-zero-le, WithinNote, within-start, within-next, within-next-place, within-zero, to-zero-past-end}
 use Rattle.texts.proofs.lines.line_length.Statement.{statement}
 use Rattle.texts.proofs.lines.line_length.Tie as tie
 
@@ -23,13 +23,13 @@ clear-1 : (c : tie.Else2 Inv-loop μ-loop) → Clear (c .before .before .before)
 clear-1 c = within-next (c .before .before .before .loop .inv .1) (omega arith) (c .if2 .left)
 
 clear-2 : (c : tie.Else3 Inv-loop μ-loop) → Clear (c .before .before .before .before .before) 2
-clear-2 c = within-step _ (omega arith) (clear-1 (c .before .before)) (omega arith) (c .if3 .left)
+clear-2 c = within-next-place _ (omega arith) (clear-1 (c .before .before)) (omega arith) (c .if3 .left)
 
 clear-3 : (c : tie.Else4 Inv-loop μ-loop) → Clear (c .before .before .before .before .before .before .before) 3
-clear-3 c = within-step _ (omega arith) (clear-2 (c .before .before)) (omega arith) (c .if4 .left)
+clear-3 c = within-next-place _ (omega arith) (clear-2 (c .before .before)) (omega arith) (c .if4 .left)
 
 returns : tie.Need-returns Inv-loop μ-loop
-returns c = sym (end-here _ _ (c .if1 .taken))
+returns c = sym (to-zero-past-end _ _ (c .if1 .taken))
 
 loop-holds : tie.Need-loop-holds Inv-loop μ-loop
 loop-holds c = (omega arith, within-start _ _)
@@ -98,7 +98,7 @@ loop-less : tie.Need-loop-less Inv-loop μ-loop
 loop-less c = omega arith
 
 loop-again : tie.Need-loop-again Inv-loop μ-loop
-loop-again c = (omega arith, within-step _ (omega arith) (clear-3 (c .before .before)) (omega arith) (c .if5 .left))
+loop-again c = (omega arith, within-next-place _ (omega arith) (clear-3 (c .before .before)) (omega arith) (c .if5 .left))
 
 sub-result-5 : tie.Need-sub-result-5 Inv-loop μ-loop
 sub-result-5 c = omega arith

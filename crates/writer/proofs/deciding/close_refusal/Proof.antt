@@ -1,7 +1,7 @@
 -- `close_refusal` meets its contract: each return is the choice that its tests make.
 -- Assumes nothing.
 use native.Mathlib.Nat.{add-zero}
-use Rattle.prelude.specs.Laws.Choice.{by-yes, by-no}
+use Rattle.prelude.specs.Laws.Choice.{if-by-true, if-by-false}
 use mathlib.Core.Path.{refl}
 use Rattle.writer.specs.Writing.{closeRefusal}
 use borrow.Author.Needs.{needs}
@@ -16,11 +16,11 @@ room-refusal-requires c κs = search needs
 
 returns : tie.Need-returns
 unfolding closeRefusal
-returns c = by-yes _ _ _ (c .before .before .is-open .ensures) (c .before .if1 .taken) (rw add-zero at (c .room-refusal .ensures))
+returns c = if-by-true _ _ _ (c .before .before .is-open .ensures) (c .before .if1 .taken) (rw add-zero at (c .room-refusal .ensures))
 
 returns-2 : tie.Need-returns-2
 unfolding closeRefusal
-returns-2 c = by-no _ _ _ (c .before .is-open .ensures) (c .if1 .left) refl
+returns-2 c = if-by-false _ _ _ (c .before .is-open .ensures) (c .if1 .left) refl
 
 pub close-refusal-spec : {M : Type 1} → statement M
 close-refusal-spec = tie.close (tie.spec is-open-requires room-refusal-requires returns returns-2)

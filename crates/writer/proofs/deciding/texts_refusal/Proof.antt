@@ -4,7 +4,7 @@ use native.Mathlib.Omega.{arith}
 use Prim.Native.Nat.{ℕ, _+_, _≤_}
 use mathlib.Core.Path.{refl, sym, _∙_, ap}
 use lib.ListN.{length}
-use Rattle.prelude.specs.Laws.Choice.{by-yes, by-no}
+use Rattle.prelude.specs.Laws.Choice.{if-by-true, if-by-false}
 use Rattle.records.specs.Encoding.{typeOf}
 use Rattle.records.specs.Laws.Judged.{fixed-range}
 use Rattle.records.specs.Laws.Bodies.{note-short, length-encoded}
@@ -45,15 +45,15 @@ returns : tie.Need-returns
 returns c =
     let f = c .before in
     let a = f .before .before .before .before .before .before .before .args in
-    by-yes _ _ _ (f .before .before .before .before .no-zero .ensures) (f .before .before .before .if1 .taken)
-    (by-yes _ _ _ (f .before .before .note-ok .ensures) (f .before .if2 .taken)
+    if-by-true _ _ _ (f .before .before .before .before .no-zero .ensures) (f .before .before .before .if1 .taken)
+    (if-by-true _ _ _ (f .before .before .note-ok .ensures) (f .before .if2 .taken)
     (c .room-refusal .ensures ∙ ap (λ (n : ℕ). roomRefusal (a .size) (a .used + n)) (omega (arith, f .fixed-size .ensures, length-encoded (a .r) (a .text .now) (a .note .now)))))
 
 returns-2 : tie.Need-returns-2
-returns-2 c = by-yes _ _ _ (c .before .before .before .no-zero .ensures) (c .before .before .if1 .taken) (by-no _ _ _ (c .before .note-ok .ensures) (c .if2 .left) refl)
+returns-2 c = if-by-true _ _ _ (c .before .before .before .no-zero .ensures) (c .before .before .if1 .taken) (if-by-false _ _ _ (c .before .note-ok .ensures) (c .if2 .left) refl)
 
 returns-3 : tie.Need-returns-3
-returns-3 c = by-no _ _ _ (c .before .no-zero .ensures) (c .if1 .left) refl
+returns-3 c = if-by-false _ _ _ (c .before .no-zero .ensures) (c .if1 .left) refl
 
 pub texts-refusal-spec : {M : Type 1} → statement M
 texts-refusal-spec =

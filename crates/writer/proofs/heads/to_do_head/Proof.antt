@@ -3,7 +3,7 @@
 use native.Mathlib.Omega.{arith}
 use mathlib.Core.Path.{_∙_}
 use Rattle.records.specs.Invariants.{ThreeBytes}
-use Rattle.writer.specs.Laws.Heads.{to-do-not, to-do-on}
+use Rattle.writer.specs.Laws.Heads.{to-do-head-not-checked, to-do-head-checked}
 use borrow.Author.Needs.{needs}
 use Rattle.writer.proofs.heads.to_do_head.Statement.{statement}
 use Rattle.writer.proofs.heads.to_do_head.Tie as tie
@@ -18,7 +18,7 @@ to-do-bytes-requires : tie.Need-to-do-bytes-requires
 to-do-bytes-requires c κs = search needs
 
 returns : tie.Need-returns
-returns c = c .to-do-bytes .ensures ∙ to-do-not _ _ _ (c .before .enum-told .given .1)
+returns c = c .to-do-bytes .ensures ∙ to-do-head-not-checked _ _ _ (c .before .enum-told .given .1)
 
 -- a check-off date fits into three bytes
 fit : (c : tie.After-known-told) → ThreeBytes (c .before .c .given .0 .0)
@@ -39,7 +39,7 @@ to-do-bytes-requires-2 c κs = search needs
 returns-2 : tie.Need-returns-2
 returns-2 c =
     let k = c .before .before .before .before in
-    let e = to-do-on (k .before .before .before .args .d) (k .before .c .given .0 .0) (k .before .before .before .args .t) (k .before .before .before .args .n) (k .before .c .given .1) in
+    let e = to-do-head-checked (k .before .before .before .args .d) (k .before .c .given .0 .0) (k .before .before .before .args .t) (k .before .before .before .args .n) (k .before .c .given .1) in
     cc
 
 pub to-do-head-spec : {M : Type 1} → statement M
