@@ -13,9 +13,19 @@ use Rattle.days.specs.declared.types.DayFacts.{DayFacts}
 abbrev pub dateCode : Date → ℕ
 dateCode d = (d .year * 16 + d .month) * 32 + d .day
 
--- the date of such a code; a year has 16 bits
+-- what such a code holds
+abbrev pub yearOfCode : ℕ → ℕ
+yearOfCode code = code / 512
+
+abbrev pub monthOfCode : ℕ → ℕ
+monthOfCode code = code / 32 % 16
+
+abbrev pub dayOfCode : ℕ → ℕ
+dayOfCode code = code % 32
+
+-- its date; a year has 16 bits
 abbrev pub dateOfCode : ℕ → Date
-dateOfCode code = record { year = code / 512 % 65536; month = code / 32 % 16; day = code % 32 }
+dateOfCode code = record { year = yearOfCode code % 65536; month = monthOfCode code; day = dayOfCode code }
 
 abbrev pub dayCode : DayFacts → ℕ
 dayCode f = dateCode (f .date) * 256 + f .weekday * 32 + f .length

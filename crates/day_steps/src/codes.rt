@@ -1,6 +1,6 @@
 // A date and a day's facts as one number each, and what such a number holds.
 ghost use mathlib.Core.Path.{_≡_};
-ghost use Rattle.day_steps.specs.Codes.{dateCode, dateOfCode, dayCode, Known};
+ghost use Rattle.day_steps.specs.Codes.{dateCode, yearOfCode, monthOfCode, dayOfCode, dateOfCode, dayCode, Known};
 ghost use Rattle.day_steps.specs.Codes.{dateIn, monthIn, dayIn, weekdayIn, monthLengthIn};
 use days::types::Date;
 use days::types::DayFacts;
@@ -11,14 +11,33 @@ pub fn date_code(d: Date) -> u32
     (d.year as u32 * 16 + d.month as u32) * 32 + d.day as u32
 }
 
-// The date of a date's code. A year has 16 bits.
+// The year in a date's code.
+pub fn year_of_code(code: u32) -> u32
+    ensures { λ r. ⌜ r ≡ yearOfCode code ⌝ }
+{
+    code / 512
+}
+
+pub fn month_of_code(code: u32) -> u32
+    ensures { λ r. ⌜ r ≡ monthOfCode code ⌝ }
+{
+    code / 32 % 16
+}
+
+pub fn day_of_code(code: u32) -> u32
+    ensures { λ r. ⌜ r ≡ dayOfCode code ⌝ }
+{
+    code % 32
+}
+
+// The date of such a code. A year has 16 bits.
 pub fn date_of_code(code: u32) -> Date
     ensures { λ r. ⌜ r ≡ dateOfCode code ⌝ }
 {
     Date {
-        year: (code / 512 % 65536) as u16,
-        month: (code / 32 % 16) as u16,
-        day: (code % 32) as u16,
+        year: (year_of_code(code) % 65536) as u16,
+        month: month_of_code(code) as u16,
+        day: day_of_code(code) as u16,
     }
 }
 

@@ -10,7 +10,9 @@ use crate::asking::rule_shows;
 use crate::types::Rule;
 use crate::waiting::wait_for;
 use day_steps::codes::date_in;
-use day_steps::codes::date_of_code;
+use day_steps::codes::day_of_code;
+use day_steps::codes::month_of_code;
+use day_steps::codes::year_of_code;
 use falls::types::ShortMonth;
 use std::num::wrapping_sub_usize;
 
@@ -19,10 +21,9 @@ const COUNT_TO_DAY_0: usize = 723502;
 
 // Days up to a date, counted by years that begin in March. It tells `on_to` where to look, and nothing rests on it.
 fn count_to(date: u32) -> u32 {
-    let d = date_of_code(date);
-    let year = d.year as u32;
-    let month = d.month as u32;
-    let day = d.day as u32;
+    let year = year_of_code(date);
+    let month = month_of_code(date);
+    let day = day_of_code(date);
     if month < 3 {
         return 365 * year + (year + 3) / 4 + (979 * month + 8829) / 32 + day;
     }
