@@ -23,9 +23,8 @@ use occurrences::hits::next_from;
 use occurrences::hits::on_to;
 use occurrences::types::Rule;
 use pages::codes::code_of;
+use pages::places::listed_at;
 use pages::places::rule_at;
-use pages::places::text_at;
-use pages::places::times_at;
 
 // Adds a weight to the sum of each day on which a rule shows; from is the first of them.
 fn add_hits(c: ShortMonth, r: Rule, days: &[u32], from: usize, w: u64, sums: &mut [u64])
@@ -67,11 +66,11 @@ fn take_in(
     ensures { λ _.
         ⌜ Added (λ k. ruleShows c r (getD (now (days .entry)) k 0)) (weighs (recordAt (now (file .entry)) number at)) (length (now (days .entry))) (now (sums .entry)) (now (sums .exit)) ⌝ }
 {
-    let times = times_at(file, at);
-    let text = text_at(file, at);
-    let w = weight_of(times.alarm, text.length);
+    let listed = listed_at(file, at);
+    let w = weight_of(listed.times.alarm, listed.text.length);
     add_hits(c, r, days, from, w, sums);
-    code_of(times.start, number, at)
+    let start = listed.times.start;
+    code_of(start, number, at)
 }
 
 // The codes of the records that show on a day of the span from day `first` on, in the book's order, and the sums of its days, which were 0. Codes behind the count stay.

@@ -9,8 +9,7 @@ ghost use Rattle.pages.specs.Invariants.{ReadyBook};
 use crate::codes::number_in;
 use crate::codes::place_in;
 use crate::collecting::collect;
-use crate::places::text_at;
-use crate::places::times_at;
+use crate::places::listed_at;
 use crate::types::Line;
 use crate::types::Ready;
 use falls::types::ShortMonth;
@@ -42,15 +41,15 @@ pub fn line_of(file: &[u8], code: u64) -> Line
 {
     let number = number_in(code);
     let at = place_in(code);
-    let times = times_at(file, at);
-    let start = times.start;
-    let end = times.end;
-    let text = text_at(file, at);
+    let listed = listed_at(file, at);
+    let start = listed.times.start;
+    let end = listed.times.end;
+    let text = listed.text;
     Line {
         number,
         start,
         end,
-        alarm: times.alarm,
+        alarm: listed.times.alarm,
         text,
     }
 }

@@ -1,11 +1,13 @@
 // What stands at a place of an accepted book: whether it falls on a day, its times, its text, its rule.
 ghost use mathlib.Core.Path.{_≡_};
-ghost use Prim.Native.Nat.{_≤_};
+ghost use Prim.Native.Nat.{_+_, _≤_};
+ghost use Rattle.records.specs.Fields.{fixedOf, textLength};
 ghost use Rattle.book.specs.Invariants.{RecordAt};
 ghost use Rattle.book.specs.Books.{entryAt, mostBookBytes};
 ghost use Rattle.falls.specs.Falls.{falls};
 ghost use Rattle.falls.specs.Times.{timesOf};
 ghost use Rattle.occurrences.specs.Rules.{ruleOf};
+use crate::types::Listed;
 use book::entries::HEAD;
 use book::entries::body_at;
 use book::entries::body_from;
@@ -16,7 +18,6 @@ use falls::rules::falls_quickly;
 use falls::times::start_of;
 use falls::times::times_of;
 use falls::types::ShortMonth;
-use falls::types::Times;
 use occurrences::reading::rule_of;
 use occurrences::types::Rule;
 use prelude::slices::Stretch;
@@ -48,23 +49,36 @@ pub fn start_at(file: &[u8], at: usize) -> Minute
     start_of(file[at], body_at(file, at))
 }
 
-// Its times and its alarm mark. From here on nothing is asked of the place but that it is one of a book.
-pub fn times_at(file: &[u8], at: usize) -> Times
+// Where the text lies of the record of a type and body at a place.
+fn text_in(at: usize, t: u8, p: &[u8]) -> Stretch
     requires { ⌜ at ≤ mostBookBytes ⌝ }
-    ensures { λ r. ⌜ r ≡ timesOf (entryAt (now (file .entry)) at .«record») ⌝ }
+    ensures { λ r. ⌜ r ≡ record { place = at + 3 + fixedOf t; length = textLength t (now (p .entry)) } ⌝ }
 {
-    times_of(byte(file, at), body_from(file, at))
+    Stretch {
+        place: at + HEAD + fixed_of(t),
+        length: text_length(t, p) as usize,
+    }
 }
 
-// Where its text lies.
+// Where its text lies. From here on nothing is asked of the place but that it is one of a book.
 pub fn text_at(file: &[u8], at: usize) -> Stretch
     requires { ⌜ at ≤ mostBookBytes ⌝ }
     ensures { λ r. ⌜ r ≡ entryAt (now (file .entry)) at .text ⌝ }
 {
+    text_in(at, byte(file, at), body_from(file, at))
+}
+
+// Its times, its alarm mark and where its text lies, in one reading.
+pub fn listed_at(file: &[u8], at: usize) -> Listed
+    requires { ⌜ at ≤ mostBookBytes ⌝ }
+    ensures { λ r. ⌜ r .times ≡ timesOf (entryAt (now (file .entry)) at .«record») ⌝ }
+    ensures { λ r. ⌜ r .text ≡ entryAt (now (file .entry)) at .text ⌝ }
+{
     let t = byte(file, at);
-    Stretch {
-        place: at + HEAD + fixed_of(t),
-        length: text_length(t, body_from(file, at)) as usize,
+    let p = body_from(file, at);
+    Listed {
+        times: times_of(t, p),
+        text: text_in(at, t, p),
     }
 }
 

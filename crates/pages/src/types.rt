@@ -2,6 +2,7 @@
 use days::types::CalendarDay;
 use days::types::DayFacts;
 use days::types::Minute;
+use falls::types::Times;
 use prelude::refusals::Refusal;
 use prelude::slices::Stretch;
 
@@ -14,6 +15,12 @@ pub struct Ready {
 pub enum Validated {
     Ready(Ready),
     Refused(Refusal),
+}
+
+// What a page lists of a record: its times, its alarm mark, and where its text lies in the file.
+pub struct Listed {
+    pub times: Times,
+    pub text: Stretch,
 }
 
 // A line of a page: the record's number, its times, its alarm mark, and where its text lies in the file.

@@ -15,25 +15,22 @@ use Rattle.texts.specs.Notes.{mostText}
 use Rattle.export.proofs.collecting.take_in.Statement.{statement}
 use Rattle.export.proofs.collecting.take_in.Tie as tie
 
-times-at-requires : tie.Need-times-at-requires
-times-at-requires c κs = search needs
-
-text-at-requires : tie.Need-text-at-requires
-text-at-requires c κs = search needs
+listed-at-requires : tie.Need-listed-at-requires
+listed-at-requires c κs = search needs
 
 weight-of-requires : tie.Need-weight-of-requires
 weight-of-requires c κs =
-    let s = c .before .before .before .before .before in
-    omega (arith, ap (λ (t : Stretch). t .length) (c .text-at .ensures), s .pre .0 .short)
+    let s = c .before .before .before .before in
+    omega (arith, ap (λ (t : Stretch). t .length) (c .listed-at .ensures .1), s .pre .0 .short)
 
 add-hits-requires : tie.Need-add-hits-requires
 add-hits-requires c κs =
     let w = c .before in
     let t = w .before in
-    let s = t .before .before .before .before .before in
+    let s = t .before .before .before .before in
     let p = s .pre .1 .1 .1 in
-    let l : t .text-at .result .length ≤ mostText = omega (arith, ap (λ (x : Stretch). x .length) (t .text-at .ensures), s .pre .0 .short) in
-    (p .0, (p .1 .0, (p .1 .1 .0, (omega (arith, w .weight-of .ensures, bit-most (t .before .times-at .result .alarm)), p .1 .1 .1))))
+    let l : t .listed-at .result .text .length ≤ mostText = omega (arith, ap (λ (x : Stretch). x .length) (t .listed-at .ensures .1), s .pre .0 .short) in
+    (p .0, (p .1 .0, (p .1 .1 .0, (omega (arith, w .weight-of .ensures, bit-most (t .listed-at .result .times .alarm)), p .1 .1 .1))))
 
 code-of-requires : tie.Need-code-of-requires
 code-of-requires c κs = search needs
@@ -43,14 +40,14 @@ same-length c = search needs
 
 returns : tie.Need-returns
 returns c =
-    let h = c .before .before .before in
+    let h = c .before .before .before .before in
     let w = h .before .before in
     let t = w .before in
-    let s = t .before .before .before .before .before in
+    let s = t .before .before .before .before in
     let f = s .args .file .now in
-    let times = t .before .times-at .ensures in
+    let times = t .listed-at .ensures .0 in
     let weight : w .weight-of .result ≡ weighs (recordAt f (s .args .number) (s .args .at)) =
-    w .weight-of .ensures ∙ rw (times, t .text-at .ensures) in (
+    w .weight-of .ensures ∙ rw (times, t .listed-at .ensures .1) in (
       c .code-of .ensures ∙ ap (λ (x : Times). codeWith (x .start .0) (s .args .number) (s .args .at)) times ∙ sym (code-at f (s .args .number) (s .args .at) (omega arith) (omega (arith, s .pre .0 .place))),
       rw weight at (h .add-hits .ensures),
     )
@@ -59,8 +56,7 @@ pub take-in-spec : {M : Type 1} → statement M
 take-in-spec =
     tie.close
     (tie.spec
-    times-at-requires
-    text-at-requires
+    listed-at-requires
     weight-of-requires
     add-hits-requires
     code-of-requires

@@ -12,11 +12,8 @@ number-in-requires c κs = search needs
 place-in-requires : tie.Need-place-in-requires
 place-in-requires c κs = search needs
 
-times-at-requires : tie.Need-times-at-requires
-times-at-requires c κs = search needs
-
-text-at-requires : tie.Need-text-at-requires
-text-at-requires c κs = search needs
+listed-at-requires : tie.Need-listed-at-requires
+listed-at-requires c κs = search needs
 
 returns : tie.Need-returns
 unfolding pageLineOf decode
@@ -25,4 +22,4 @@ returns c = cc
 pub line-of-spec : {M : Type 1} → statement M
 line-of-spec =
     tie.close
-    (tie.spec number-in-requires place-in-requires times-at-requires text-at-requires returns)
+    (tie.spec number-in-requires place-in-requires listed-at-requires returns)
