@@ -20,11 +20,11 @@ abbrev pub fieldOf : List ℕ → ℕ → ℕ
 fieldOf xs r = getD xs r 0
 
 -- "the arrays are equally long, at most 4,096"
-abbrev pub mostRecords : ℕ
-mostRecords = 4096
+abbrev pub mostChainRecords : ℕ
+mostChainRecords = 4096
 
 unfoldable pub sizesOk : ℕ → ℕ → ℕ → ℕ → Bool
-sizesOk p n k m = ifEq n p (ifEq k p (ifEq m p (ifLt mostRecords p false true) false) false) false
+sizesOk p n k m = ifEq n p (ifEq k p (ifEq m p (ifLt mostChainRecords p false true) false) false) false
 
 -- "the Single Occurrence Table, five bytes an entry"; what is left at the end is the last entry, cut short
 abbrev pub entries : List ℕ → ℕ

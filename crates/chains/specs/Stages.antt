@@ -8,7 +8,7 @@ use lib.ListN.{length}
 use Rattle.prelude.specs.Choice.{ifLt}
 use Rattle.prelude.specs.Verdicts.{inTurn}
 use Rattle.prelude.specs.declared.refusals.Verdict.{Verdict}
-use Rattle.chains.specs.Chains.{fieldOf, mostRecords, entries, days, headAt, headBad, walk, chainAt, nextBad, entryVerdict, headVerdict, linksVerdict, orderVerdict}
+use Rattle.chains.specs.Chains.{fieldOf, mostChainRecords, entries, days, headAt, headBad, walk, chainAt, nextBad, entryVerdict, headVerdict, linksVerdict, orderVerdict}
 use Rattle.chains.specs.Shown.{after}
 
 -- the arrays are equally long, at most 4,096
@@ -16,7 +16,7 @@ pub record EqualLengths (previous next kind minute : List ℕ) : Type 0 where
   pub nexts : length next ≡ length previous
   pub kinds : length kind ≡ length previous
   pub minutes : length minute ≡ length previous
-  pub most : length previous ≤ mostRecords
+  pub most : length previous ≤ mostChainRecords
 
 -- all stages: the sizes are right, the table has an entry, and no verdict is a refusal
 pub record Passed (t previous next kind minute : List ℕ) : Type 0 where
@@ -34,7 +34,7 @@ HeadsIn t k n = (i : ℕ) → i < k → headAt t i < n
 -- no head and no next is bad
 pub record Linked (t previous next : List ℕ) : Type 0 where
   pub equal : length next ≡ length previous
-  pub most : length previous ≤ mostRecords
+  pub most : length previous ≤ mostChainRecords
   pub heads : (i : ℕ) → i < days t → headBad t previous i ≡ false
   pub nexts : (i : ℕ) → i < days t → (r : ℕ) → List·Memᴰ r (chainAt t next i) → nextBad previous next r ≡ false
 

@@ -4,7 +4,7 @@ ghost use mathlib.Core.Path.{_≡_};
 ghost use Prim.Native.Nat.{_*_, _≤_};
 ghost use lib.ListN.{length};
 ghost use Rattle.prelude.specs.Verdicts.{inTurn};
-ghost use Rattle.chains.specs.Chains.{mostRecords, headVerdict};
+ghost use Rattle.chains.specs.Chains.{mostChainRecords, headVerdict};
 ghost use Rattle.chains.specs.Marks.{noMarks, headMarked};
 use crate::table::MOST_RECORDS;
 use crate::table::NO_RECORD;
@@ -60,7 +60,7 @@ fn mark_heads(table: &[u8], days: usize, previous: &[u16], met: &mut [u8]) -> Ve
 // The same with places of its own.
 pub fn judge_heads(table: &[u8], days: usize, previous: &[u16]) -> Verdict
     requires { ⌜ 5 * days ≤ length (now table) ⌝ }
-    requires { ⌜ length (now previous) ≤ mostRecords ⌝ }
+    requires { ⌜ length (now previous) ≤ mostChainRecords ⌝ }
     ensures { λ r. ⌜ r ≡ inTurn (headVerdict (now (table .entry)) (now (previous .entry))) days 0 ⌝ }
 {
     if previous.len() <= FEW {

@@ -4,7 +4,7 @@ ghost use mathlib.Core.Path.{_≡_};
 ghost use Prim.Native.Nat.{_*_, _<_, _≤_};
 ghost use lib.ListN.{length};
 ghost use Rattle.prelude.specs.Verdicts.{inTurn};
-ghost use Rattle.chains.specs.Chains.{mostRecords, walk, linked, linksVerdict};
+ghost use Rattle.chains.specs.Chains.{mostChainRecords, walk, linked, linksVerdict};
 ghost use Rattle.chains.specs.Stages.{HeadsIn};
 use crate::table::NO_RECORD;
 use crate::table::head_at;
@@ -15,7 +15,7 @@ use prelude::refusals::Verdict;
 // Along the chain from a head on.
 fn judge_chain(previous: &[u16], next: &[u16], head: u16) -> Verdict
     requires { ⌜ length (now next) ≡ length (now previous) ⌝ }
-    requires { ⌜ (length (now next) ≤ mostRecords) × (head < length (now next)) ⌝ }
+    requires { ⌜ (length (now next) ≤ mostChainRecords) × (head < length (now next)) ⌝ }
     ensures { λ r.
         ⌜ r ≡ linked (now (previous .entry)) (now (next .entry)) (walk (length (now (next .entry))) (now (next .entry)) head) ⌝ }
 {
@@ -48,7 +48,7 @@ fn judge_chain(previous: &[u16], next: &[u16], head: u16) -> Verdict
 pub fn judge_links(table: &[u8], days: usize, previous: &[u16], next: &[u16]) -> Verdict
     requires { ⌜ 5 * days ≤ length (now table) ⌝ }
     requires { ⌜ length (now next) ≡ length (now previous) ⌝ }
-    requires { ⌜ (length (now next) ≤ mostRecords) × HeadsIn (now table) days (length (now next)) ⌝ }
+    requires { ⌜ (length (now next) ≤ mostChainRecords) × HeadsIn (now table) days (length (now next)) ⌝ }
     ensures { λ r. ⌜ r ≡ inTurn (linksVerdict (now (table .entry)) (now (previous .entry)) (now (next .entry))) days 0 ⌝ }
 {
     let mut i: usize = 0;

@@ -23,13 +23,13 @@ abbrev pub on : ℕ → ℕ → ℕ → Date
 on y m d = record { year = y; month = m; day = d }
 
 -- k days of a month, from its day d on
-abbrev pub daysFrom : ℕ → ℕ → ℕ → ℕ → List ℕ
-daysFrom y m zero d = []
-daysFrom y m (suc k) d = dayNumber (on y m d) ∷ daysFrom y m k (d + 1)
+abbrev pub monthDaysFrom : ℕ → ℕ → ℕ → ℕ → List ℕ
+monthDaysFrom y m zero d = []
+monthDaysFrom y m (suc k) d = dayNumber (on y m d) ∷ monthDaysFrom y m k (d + 1)
 
 -- the days of a month
 abbrev daysOf : ℕ → ℕ → List ℕ
-daysOf y m = daysFrom y m (monthLength y m) 1
+daysOf y m = monthDaysFrom y m (monthLength y m) 1
 
 pub data Fact : Type 0 where
   -- a date is a day

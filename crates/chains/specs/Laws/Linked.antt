@@ -13,7 +13,7 @@ use Rattle.prelude.specs.Laws.Refusals.{refused-not-fine}
 use Rattle.prelude.specs.Verdicts.{inTurn}
 use Rattle.prelude.specs.Laws.Verdicts.{unless-bad-fine, and-then-fine-both, in-turn-fine-each}
 use Rattle.prelude.specs.declared.refusals.Verdict.{Verdict}
-use Rattle.chains.specs.Chains.{fieldOf, noRecord, mostRecords, sizesOk, entries, days, headAt, headBefore, headBad, chainAt, nextBad, linked, entryVerdict, headVerdict, linksVerdict, chainsJudged, chainsVerdict, chainsAnswered, chainsAnswer}
+use Rattle.chains.specs.Chains.{fieldOf, noRecord, mostChainRecords, sizesOk, entries, days, headAt, headBefore, headBad, chainAt, nextBad, linked, entryVerdict, headVerdict, linksVerdict, chainsJudged, chainsVerdict, chainsAnswered, chainsAnswer}
 use Rattle.chains.specs.Stages.{EqualLengths, Linked, Passed}
 use Rattle.prelude.specs.declared.answers.CountAnswer.{CountAnswer}
 
@@ -23,7 +23,7 @@ sizes-ok-equal-lengths previous next kind minute e f =
     let a = eq-take (length next) (length previous) _ _ false≢true (sym e ∙ f) in
     let b = eq-take (length kind) (length previous) _ _ false≢true (a .1) in
     let c = eq-take (length minute) (length previous) _ _ false≢true (b .1) in
-    let d = lt-skip mostRecords (length previous) _ _ false≢true (c .1) in
+    let d = lt-skip mostChainRecords (length previous) _ _ false≢true (c .1) in
     record { nexts = a .0; kinds = b .0; minutes = c .0; most = d .0 }
 
 -- along fine links no next is bad

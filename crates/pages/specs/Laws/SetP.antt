@@ -20,7 +20,7 @@ use Rattle.falls.specs.Falls.{inSpan, weeklyFalls, byPositionFalls, onMissingDa
 use Rattle.falls.specs.declared.types.ShortMonth.{ShortMonth}
 use Rattle.pages.specs.Next.{nextOf}
 use Rattle.pages.specs.Laws.Next.{from-next, from-found}
-use Rattle.pages.specs.SetP.{on, daysFrom, fallsIn, FactHolds, All, byPosition, weekly, monthly, yearly, facts}
+use Rattle.pages.specs.SetP.{on, monthDaysFrom, fallsIn, FactHolds, All, byPosition, weekly, monthly, yearly, facts}
 
 -- a day's facts by its date
 facts-on : {d : Date} → RealDate d → factsOf (dayNumber d) ≡ factsWith (dayNumber d) d ((dayNumber d + 2) % 7 + 1)
@@ -49,12 +49,12 @@ next-number y m d h = omega arith
 
 by-dates :
     (c : ShortMonth) (r : Record) (y m k d n : ℕ) → RealDate (on y m 1) → 1 ≤ d → d + k ≤ monthLength y m + 1 → dayNumber (on y m d) ≡ n
-    → keep (λ n. falls c (factsOf n) r) (daysFrom y m k d) ≡ fallingFrom c r y m k d n
+    → keep (λ n. falls c (factsOf n) r) (monthDaysFrom y m k d) ≡ fallingFrom c r y m k d n
 unfolding keep
 by-dates c r y m zero d n v l h e = refl
 by-dates c r y m (suc k) d n v l h e =
     let w : RealDate (on y m d) = record { from = v .from; upto = v .upto; january = v .january; december = v .december; first = l; last = omega arith } in
-    let t : keep (λ n. falls c (factsOf n) r) (daysFrom y m k (d + 1)) ≡ fallingFrom c r y m k (d + 1) (n + 1) = by-dates c r y m k (d + 1) (n + 1) v (omega arith) (omega arith) (next-number y m d l ∙ ap (λ (z : ℕ). z + 1) e) in
+    let t : keep (λ n. falls c (factsOf n) r) (monthDaysFrom y m k (d + 1)) ≡ fallingFrom c r y m k (d + 1) (n + 1) = by-dates c r y m k (d + 1) (n + 1) v (omega arith) (omega arith) (next-number y m d l ∙ ap (λ (z : ℕ). z + 1) e) in
     rw (t, facts-on w, e) (picked (falls c (factsWith n (on y m d) ((n + 2) % 7 + 1)) r) _ _)
 
 month :
