@@ -1,4 +1,4 @@
--- HP 200LX day chains across C: number 0 and the days, or the refusal with no days.
+-- HP 200LX day chains across C: what number 0 says of them.
 -- Assumes nothing.
 use mathlib.Core.Path.{_≡_}
 use mathlib.Core.List.{List}
