@@ -7,7 +7,8 @@
 //! and `writings`, which makes runs of writing calls; `cases`, which reads the open vectors; `calls`, the calls of both
 //! implementations, and `header`, the names of all calls; `civil` and `halving`, further ways to compute dates,
 //! `occurrences`, one to compute when a record falls, and `chain_rules`, one to judge day chains; `fuzz`, hostile
-//! inputs for every call and for the program; `callgrind`, which counts instructions.
+//! inputs for every call and for the program; `process`, which runs the proved programs; `callgrind`, which counts
+//! instructions.
 
 pub mod across_c;
 pub mod answers;
@@ -32,6 +33,7 @@ pub mod notes;
 pub mod occurrences;
 pub mod pages;
 pub mod printed;
+pub mod process;
 pub mod program;
 pub mod records;
 pub mod refusal;

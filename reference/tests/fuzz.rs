@@ -10,11 +10,11 @@ use reference::fuzz::{files, program, Tally};
 use reference::header;
 use reference::pages::ShortMonth::{Last, Skip};
 use reference::printed;
+use reference::process::apptbook;
 use reference::refusal::Refusal;
 use reference::rng::Rng;
-use std::path::{Path, PathBuf};
 use std::sync::Barrier;
-use std::{env, thread};
+use std::thread;
 
 /// All of `include/apptbook.h`, with the numbers that each has to give in a run as long as this.
 const CALLS: &[(&str, &[u32])] = &[
@@ -150,10 +150,7 @@ fn every_call_of_the_header() {
 #[test]
 fn hostile_commands() {
     let mut rng = Rng::for_test("hostile_commands");
-    let path: PathBuf = match env::var_os("APPTBOOK_BIN") {
-        Some(path) => path.into(),
-        None => Path::new(env!("CARGO_MANIFEST_DIR")).join("../target/bin/apptbook"),
-    };
+    let path = apptbook();
     let mut tally = Tally::default();
     for _ in 0..600 {
         program::round(&path, rng.u64(), &mut tally);

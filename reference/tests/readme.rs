@@ -4,11 +4,12 @@
 //! `bindings` is a copy, which looks for its archive in this folder, `target/staticlib/libcabi.a` is the archive that
 //! all tests link, and `run` is the program that they run.
 
+use reference::process::apptbook;
 use reference::vectors::calendars::whole_case;
+use std::fs;
 use std::os::unix::fs::symlink;
 use std::path::{Path, PathBuf};
 use std::process::Command;
-use std::{env, fs};
 
 const PAGE: &str = "1993-03-15 Mon 1\n10:00-11:00 Dep\n";
 
@@ -53,10 +54,7 @@ fn folder(name: &str) -> PathBuf {
     let folder = Path::new(env!("CARGO_TARGET_TMPDIR")).join(format!("readme-{name}"));
     let _ = fs::remove_dir_all(&folder);
     fs::create_dir_all(folder.join("target/staticlib")).expect("a new folder");
-    let program = match env::var_os("APPTBOOK_BIN") {
-        Some(path) => std::path::absolute(path).expect("a path"),
-        None => top().join("target/bin/apptbook"),
-    };
+    let program = std::path::absolute(apptbook()).expect("a path");
     for (from, to) in [
         (top().join("include"), "include"),
         (top().join("examples"), "examples"),

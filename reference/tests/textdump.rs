@@ -1,42 +1,22 @@
 //! The calls that give a text or a note as a stretch of the caller's own file, which cannot come over to C: the
 //! test program `textdump` makes them, as a process, and writes what they give.
-//!
-//! `target/bin/textdump` at the top of the repository, or beside the program that APPTBOOK_BIN names.
 
 use reference::books::{book_near, edge_day, long, small, Cases, Draft, Field, File};
 use reference::calendar::day_appointments;
 use reference::export::export;
 use reference::pages::{page, ShortMonth};
+use reference::process::{self, apptbook};
 use reference::program::ROOM;
 use reference::rng::Rng;
 use reference::vectors::fillers::filled;
 use reference::vectors::{every_kind, WHOLE_CASE};
 use reference::{book, days};
-use std::io::Write;
-use std::path::{Path, PathBuf};
-use std::process::{Command, Stdio};
-use std::{env, fs, thread};
-
-fn program() -> PathBuf {
-    let apptbook = match env::var_os("APPTBOOK_BIN") {
-        Some(path) => path.into(),
-        None => Path::new(env!("CARGO_MANIFEST_DIR")).join("../target/bin/apptbook"),
-    };
-    apptbook.with_file_name("textdump")
-}
+use std::fs;
+use std::path::Path;
 
 fn run(words: &[&str], input: &[u8]) -> Vec<u8> {
-    let mut command = Command::new(program());
-    command.args(words).stdin(Stdio::piped()).stdout(Stdio::piped()).stderr(Stdio::piped());
-    let mut child = command.spawn().unwrap_or_else(|e| panic!("{command:?}: {e}"));
-    let mut pipe = child.stdin.take().expect("a pipe");
-    let output = thread::scope(|scope| {
-        // It may have read enough and be gone.
-        scope.spawn(move || pipe.write_all(input).is_ok());
-        child.wait_with_output().expect("an output")
-    });
-    assert!(output.status.success() && output.stderr.is_empty(), "{command:?}: {output:?}");
-    output.stdout
+    let words: Vec<Vec<u8>> = words.iter().map(|word| word.as_bytes().to_vec()).collect();
+    process::run(&apptbook().with_file_name("textdump"), &words, input)
 }
 
 /// Text and note of each record, the text of each line of the day's page, and that of each appointment in the

@@ -1,14 +1,11 @@
 //! The program as a process: hostile command lines and hostile books, against the plain program.
 
 use super::{files, numbers, Tally};
+use crate::process::{command, fed};
 use crate::program::output;
 use crate::rng::Rng;
-use std::ffi::OsString;
-use std::io::Write;
-use std::os::unix::ffi::OsStringExt;
 use std::path::Path;
-use std::process::{Command, Output, Stdio};
-use std::thread;
+use std::process::Output;
 
 /// Runs it once.
 pub fn round(program: &Path, seed: u64, tally: &mut Tally) {
@@ -17,7 +14,7 @@ pub fn round(program: &Path, seed: u64, tally: &mut Tally) {
     let input = if rng.one_in(12) { files::calendar(&mut rng) } else { files::book(&mut rng) };
     tally.bytes += input.len() as u64;
     let pieces = if rng.one_in(4) { rng.within(1..=input.len().max(1)) } else { usize::MAX };
-    let Output { status, stdout, stderr } = run(program, &words, &input, pieces);
+    let Output { status, stdout, stderr } = fed(&mut command(program, &words), input.chunks(pieces));
     let expected = output(&words, &input);
     let (kind, number) = kind(&expected);
     tally.add(kind, number);
@@ -29,21 +26,6 @@ pub fn round(program: &Path, seed: u64, tally: &mut Tally) {
         expected.len(),
         String::from_utf8_lossy(&stderr)
     );
-}
-
-fn run(program: &Path, words: &[Vec<u8>], input: &[u8], pieces: usize) -> Output {
-    let mut command = Command::new(program);
-    command.args(words.iter().map(|word| OsString::from_vec(word.clone())));
-    command.stdin(Stdio::piped()).stdout(Stdio::piped()).stderr(Stdio::piped());
-    let mut child = command.spawn().unwrap_or_else(|e| panic!("{}: {e}", program.display()));
-    let mut pipe = child.stdin.take().expect("a pipe");
-    thread::scope(|scope| {
-        scope.spawn(move || {
-            // It may have read enough and be gone.
-            input.chunks(pieces).try_for_each(|piece| pipe.write_all(piece))
-        });
-        child.wait_with_output().expect("an output")
-    })
 }
 
 /// What the answer is: a page, a Calendar file or a refusal.

@@ -1,7 +1,8 @@
 //! Books on standard input: of full size and more, in pieces, or none.
 
-use super::{compare, program, run, run_slowly, said, words};
+use super::{compare, run, run_slowly, words};
 use reference::books::{small, Field, File};
+use reference::process::{apptbook, said};
 use reference::program::output;
 use reference::rng::Rng;
 use reference::vectors::calendars::whole_case;
@@ -98,7 +99,7 @@ fn slow_books() {
 fn without_input(words: &[&str], how: &str) -> Vec<u8> {
     let mut command = Command::new("sh");
     let script = format!("exec \"$0\" \"$@\" {how}");
-    command.args([OsStr::new("-c"), OsStr::new(&script), program().as_os_str()]).args(words);
+    command.args([OsStr::new("-c"), OsStr::new(&script), apptbook().as_os_str()]).args(words);
     let output = command.output().unwrap_or_else(|e| panic!("{command:?}: {e}"));
     said(&command, output)
 }

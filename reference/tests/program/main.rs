@@ -1,6 +1,4 @@
 //! The proved program as a process, against the plain one: what it writes to standard output, byte for byte.
-//!
-//! `target/bin/apptbook` at the top of the repository, or the program that APPTBOOK_BIN names.
 
 mod exports;
 mod inputs;
@@ -8,60 +6,26 @@ mod pipes;
 mod words;
 
 use reference::pages::ShortMonth;
+use reference::process::{self, apptbook, fed, said};
 use reference::program::output;
 use reference::vectors::commands::{CUT_BOOKS, PAGES, REFUSALS};
 use reference::vectors::pages::{self, Shown};
 use reference::vectors::WHOLE_CASE;
-use std::ffi::OsString;
-use std::io::Write;
-use std::os::unix::ffi::OsStringExt;
-use std::path::{Path, PathBuf};
-use std::process::{Command, Output, Stdio};
-use std::{env, thread};
+use std::process::Command;
 
-fn program() -> PathBuf {
-    match env::var_os("APPTBOOK_BIN") {
-        Some(path) => path.into(),
-        None => Path::new(env!("CARGO_MANIFEST_DIR")).join("../target/bin/apptbook"),
-    }
-}
-
-/// It ends by itself and says nothing but on standard output.
-fn said(command: &Command, output: Output) -> Vec<u8> {
-    let Output { status, stdout, stderr } = output;
-    assert!(status.success(), "{command:?}: {status}");
-    assert!(stderr.is_empty(), "{command:?}: {}", String::from_utf8_lossy(&stderr));
-    stdout
-}
-
-/// With a pipe for each of its three files.
 fn command(words: &[Vec<u8>]) -> Command {
-    let mut command = Command::new(program());
-    command.args(words.iter().map(|word| OsString::from_vec(word.clone())));
-    command.stdin(Stdio::piped()).stdout(Stdio::piped()).stderr(Stdio::piped());
-    command
+    process::command(&apptbook(), words)
 }
 
 /// Runs it, and writes its standard input in such pieces.
 fn run_slowly<'a>(words: &[Vec<u8>], pieces: impl Iterator<Item = &'a [u8]> + Send) -> Vec<u8> {
     let mut command = command(words);
-    let mut child = command.spawn().unwrap_or_else(|e| panic!("{command:?}: {e}"));
-    let mut input = child.stdin.take().expect("a pipe");
-    thread::scope(|scope| {
-        scope.spawn(move || {
-            for piece in pieces {
-                // It may have read enough and be gone.
-                if input.write_all(piece).is_err() {
-                    break;
-                }
-            }
-        });
-        said(&command, child.wait_with_output().expect("an output"))
-    })
+    let output = fed(&mut command, pieces);
+    said(&command, output)
 }
 
 fn run(words: &[Vec<u8>], input: &[u8]) -> Vec<u8> {
-    run_slowly(words, [input].into_iter())
+    process::run(&apptbook(), words, input)
 }
 
 fn words<const N: usize>(words: [&[u8]; N]) -> [Vec<u8>; N] {

@@ -4,6 +4,7 @@
 
 use super::{command, words};
 use reference::books::{small, Field, File};
+use reference::process::{self, apptbook};
 use reference::program::output;
 use reference::rng::Rng;
 use reference::vectors::WHOLE_CASE;
@@ -36,7 +37,7 @@ fn end(child: &mut Child) -> ExitStatus {
 fn redirected(words: &[&str], how: &str) -> (ExitStatus, Vec<u8>, Vec<u8>) {
     let mut child = Command::new("sh")
         .args(["-c", &format!("exec \"$0\" \"$@\" {how}")])
-        .arg(super::program())
+        .arg(apptbook())
         .args(words)
         .stdin(Stdio::piped())
         .stdout(Stdio::piped())
@@ -147,7 +148,7 @@ fn a_reader_that_is_gone() {
 
         let mut child = Command::new("sh")
             .args(["-c", "trap '' PIPE; exec \"$0\" \"$@\""])
-            .arg(super::program())
+            .arg(apptbook())
             .args(words)
             .stdin(Stdio::piped())
             .stdout(Stdio::piped())
@@ -165,9 +166,9 @@ fn a_small_stack() {
     for (words, expected) in [(&["4822"][..], PAGE), (&["4822", "367"], b"11 0\n")] {
         let script = "ulimit -s 512 && exec \"$0\" \"$@\" <../examples/case.book";
         let mut command = Command::new("sh");
-        command.args(["-c", script]).arg(super::program()).args(words);
+        command.args(["-c", script]).arg(apptbook()).args(words);
         let output = command.current_dir(env!("CARGO_MANIFEST_DIR")).output().expect("a shell");
-        assert_eq!(super::said(&command, output), expected);
+        assert_eq!(process::said(&command, output), expected);
     }
 }
 

@@ -7,8 +7,9 @@
 use reference::day_chains::packed;
 use reference::fuzz::calls::Fuzz;
 use reference::fuzz::{chains, files, program, Tally};
+use reference::process::apptbook;
 use reference::rng::Rng;
-use std::path::{Path, PathBuf};
+use std::path::Path;
 use std::time::{Duration, Instant};
 use std::{env, fs};
 
@@ -42,10 +43,7 @@ fn calls(seed: u64, time: Duration) {
 }
 
 fn runs(seed: u64, time: Duration) {
-    let path: PathBuf = match env::var_os("APPTBOOK_BIN") {
-        Some(path) => path.into(),
-        None => Path::new(env!("CARGO_MANIFEST_DIR")).join("../target/bin/apptbook"),
-    };
+    let path = apptbook();
     let mut tally = Tally::default();
     let count = rounds(seed, time, |seed| program::round(&path, seed, &mut tally));
     print("program", seed, count, &tally);
