@@ -23,9 +23,9 @@
 
 /*
  * Of this header and its library: raised whenever a call is added or changed, so that a caller can compare it by #if.
- * 1: the first calls. 2: apptbook_check_chains.
+ * 1: the first calls. 2: apptbook_check_chains. 3: apptbook_default_last: who has no wish gets last, where it was skip.
  */
-#define APPTBOOK_VERSION 2
+#define APPTBOOK_VERSION 3
 
 #ifdef __cplusplus
 extern "C" {
@@ -329,7 +329,7 @@ apptbook_writer apptbook_close(apptbook_writer state, uint8_t *buffer, size_t le
  *   yearly ones               on their month and day.
  * Where a month does not have the day of one of the last two kinds, the short-month choice decides, handed
  * over as `last`: false (skip) shows the record on no day of that month, true (last) on the month's last day.
- * It plays no other part. Who has no wish hands over false.
+ * It plays no other part. Who has no wish hands over apptbook_default_last(), which is true.
  *
  * A page lists the records that fall on a day by start minute, and by their numbers where that is equal. Its
  * lines count from 0.
@@ -369,6 +369,9 @@ typedef struct apptbook_page_line_answer {
     uint16_t end;       /* end minute */
     bool alarm;         /* alarm on */
 } apptbook_page_line_answer;
+
+/* The choice of a caller who names none, to be handed over as `last`: true, that is last. */
+bool apptbook_default_last(void);
 
 /* Whether a record falls on a day. Refused with 11, then with 10 when there is no such record. */
 apptbook_falls_answer apptbook_falls_on(const uint8_t *file, size_t len, size_t record, uint16_t day,

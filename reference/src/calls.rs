@@ -1,10 +1,10 @@
-//! The calls on a book and on day chains and the writing calls, by the library and by the reference, with answers of
-//! the same form.
+//! The calls on a book and on day chains, the writing calls and the program, by the library and by the reference, with
+//! answers of the same form.
 
 use crate::answers::{entry_of, settings_of, state_of, writer_answer, IntoAnswer};
 use crate::pages::ShortMonth;
 use crate::writer::{NewRecord, Writer};
-use crate::{book, chains, export, pages, printed, writer};
+use crate::{book, chains, export, pages, printed, process, program, writer};
 use apptbook::raw;
 use apptbook::raw::book::{BookAnswer, LineAnswer, LinesAnswer, RecordAnswer};
 use apptbook::raw::pages::{CountAnswer, FallsAnswer, OccurrenceAnswer, PageLineAnswer};
@@ -19,6 +19,7 @@ pub struct Calls {
     pub record: fn(&[u8], usize) -> RecordAnswer,
     pub note_lines: fn(&[u8], usize) -> LinesAnswer,
     pub note_line: fn(&[u8], usize, usize) -> LineAnswer,
+    pub default_last: fn() -> bool,
     pub falls_on: fn(&[u8], usize, u16, ShortMonth) -> FallsAnswer,
     pub next_occurrence: fn(&[u8], usize, u16, ShortMonth) -> OccurrenceAnswer,
     pub page_lines: fn(&[u8], u16, ShortMonth) -> CountAnswer,
@@ -30,6 +31,8 @@ pub struct Calls {
     pub add: Add,
     pub close: fn(WriterAnswer, &mut [u8]) -> WriterAnswer,
     pub check_chains: CheckChains,
+    /// A command line and a standard input, and what is written.
+    pub program: fn(&[Vec<u8>], &[u8]) -> Vec<u8>,
 }
 
 pub const PROVED: Calls = Calls {
@@ -38,6 +41,7 @@ pub const PROVED: Calls = Calls {
     record: raw::book::record,
     note_lines: raw::book::note_lines,
     note_line: raw::book::note_line,
+    default_last: || raw::pages::default_last(),
     falls_on: raw::pages::falls_on,
     next_occurrence: raw::pages::next_occurrence,
     page_lines: raw::pages::page_lines,
@@ -49,6 +53,7 @@ pub const PROVED: Calls = Calls {
     add: raw::writer::add,
     close: raw::writer::close,
     check_chains: raw::chains::check_chains,
+    program: |words, input| process::run(&process::apptbook(), words, input),
 };
 
 pub const PLAIN: Calls = Calls {
@@ -57,6 +62,7 @@ pub const PLAIN: Calls = Calls {
     record: |file, record| book::record(file, record).answer(),
     note_lines: |file, record| book::note_lines(file, record).answer(),
     note_line: |file, record, line| book::note_line(file, record, line).answer(),
+    default_last: || pages::DEFAULT == ShortMonth::Last,
     falls_on: |file, record, day, choice| pages::falls_on(file, record, day, choice).answer(),
     next_occurrence: |file, record, day, choice| pages::next_occurrence(file, record, day, choice).answer(),
     page_lines: |file, day, choice| pages::page_lines(file, day, choice).answer(),
@@ -73,9 +79,19 @@ pub const PLAIN: Calls = Calls {
     check_chains: |table, previous, next, kinds, minutes| {
         chains::check_chains(table, previous, next, kinds, minutes).answer()
     },
+    program: program::output,
 };
 
 impl Calls {
+    /// That of a caller who names none.
+    pub fn default_choice(&self) -> ShortMonth {
+        if (self.default_last)() {
+            ShortMonth::Last
+        } else {
+            ShortMonth::Skip
+        }
+    }
+
     /// Reads a right book and writes it again: the file, and the buffer behind it as it was.
     pub fn written_again(&self, file: &[u8]) -> Vec<u8> {
         const BEFORE: u8 = 0xEE;

@@ -1,6 +1,6 @@
 //! The open vectors: blocks of lines, each a key and its value, with a blank line between two blocks. The answer is a
-//! block's last line. Bytes are lowercase hexadecimal digits, a hyphen for none. A list has a space between numbers; an
-//! empty one is the key alone.
+//! block's last line, but for the request `until` which it holds. Bytes are lowercase hexadecimal digits, a hyphen for
+//! none. A list has a space between two items; an empty one is the key alone.
 
 use crate::pages::ShortMonth;
 use std::collections::BTreeMap;
@@ -10,6 +10,8 @@ pub struct Case<'a> {
     pub name: &'a str,
     pub call: &'a str,
     pub answer: &'a str,
+    /// The request that changes the answer.
+    pub until: Option<u16>,
     /// What else the question has, without what was taken.
     asked: BTreeMap<&'a str, &'a str>,
 }
@@ -22,12 +24,18 @@ impl<'a> Case<'a> {
     fn new(block: &'a str) -> Self {
         let lines = block.split('\n').map(|line| line.split_once(' ').unwrap_or((line, "")));
         let lines: Vec<(&str, &str)> = lines.collect();
-        let [("case", name), ("call", call), rest @ .., ("answer", answer)] = &lines[..] else {
+        let (until, lines) = match &lines[..] {
+            [rest @ .., ("until", request)] => (Some(*request), rest),
+            all => (None, all),
+        };
+        let [("case", name), ("call", call), rest @ .., ("answer", answer)] = lines else {
             panic!("not a case: {block:.300}")
         };
         let asked: BTreeMap<&str, &str> = rest.iter().copied().collect();
         assert_eq!(asked.len(), rest.len(), "{name}: a key twice");
-        Case { name, call, answer, asked }
+        let mut case = Case { name, call, answer, until: None, asked };
+        case.until = until.map(|request| case.parsed("until", request));
+        case
     }
 
     fn take(&mut self, key: &str) -> &'a str {
@@ -36,6 +44,10 @@ impl<'a> Case<'a> {
 
     pub fn bytes(&mut self, key: &str) -> Vec<u8> {
         let word = self.take(key);
+        self.decoded(key, word)
+    }
+
+    fn decoded(&self, key: &str, word: &str) -> Vec<u8> {
         bytes(word).unwrap_or_else(|| panic!("{}: {key} is {word:.80}", self.name))
     }
 
@@ -45,9 +57,18 @@ impl<'a> Case<'a> {
     }
 
     pub fn list(&mut self, key: &str) -> Vec<u16> {
+        self.items(key).into_iter().map(|word| self.parsed(key, word)).collect()
+    }
+
+    /// A list whose items are bytes.
+    pub fn words(&mut self, key: &str) -> Vec<Vec<u8>> {
+        self.items(key).into_iter().map(|word| self.decoded(key, word)).collect()
+    }
+
+    fn items(&mut self, key: &str) -> Vec<&'a str> {
         match self.take(key) {
             "" => vec![],
-            words => words.split(' ').map(|word| self.parsed(key, word)).collect(),
+            items => items.split(' ').collect(),
         }
     }
 
@@ -55,10 +76,12 @@ impl<'a> Case<'a> {
         word.parse().unwrap_or_else(|e| panic!("{}: {key} is {word:.80}, {e}", self.name))
     }
 
-    pub fn choice(&mut self) -> ShortMonth {
+    /// The choice, or that of a caller who names none.
+    pub fn choice(&mut self, none: ShortMonth) -> ShortMonth {
         match self.take("choice") {
             "skip" => ShortMonth::Skip,
             "last" => ShortMonth::Last,
+            "none" => none,
             word => panic!("{}: choice {word}", self.name),
         }
     }

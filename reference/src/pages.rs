@@ -11,6 +11,9 @@ use std::ops::Range;
 
 pub const CHOICES: [ShortMonth; 2] = [ShortMonth::Skip, ShortMonth::Last];
 
+/// That of a caller who names none (document 02, R-3).
+pub const DEFAULT: ShortMonth = ShortMonth::Last;
+
 #[derive(Clone, Debug, PartialEq, Eq)]
 pub struct Line {
     /// The record's number, which is its place in the book.

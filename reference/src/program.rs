@@ -1,5 +1,5 @@
 //! Document 01, "What we read, write and show": the small program, as a function of its command line and its
-//! standard input.
+//! standard input. Document 02, R-3: its command line ends in the word.
 
 use crate::book;
 use crate::export::export;
@@ -18,10 +18,11 @@ pub fn output(words: &[Vec<u8>], input: &[u8]) -> Vec<u8> {
 
 fn answer(words: &[Vec<u8>], input: &[u8]) -> Result<Vec<u8>, Refusal> {
     book::read_book(input)?;
-    let (numbers, choice) = match words.split_last() {
-        Some((word, others)) if word == b"skip" => (others, ShortMonth::Skip),
-        Some((word, others)) if word == b"last" => (others, ShortMonth::Last),
-        _ => (words, ShortMonth::default()),
+    let (word, numbers) = words.split_last().ok_or(OUT_OF_RANGE)?;
+    let choice = match &word[..] {
+        b"skip" => ShortMonth::Skip,
+        b"last" => ShortMonth::Last,
+        _ => return Err(OUT_OF_RANGE),
     };
     match numbers {
         [day] => printed_page(input, number(day)?, choice),

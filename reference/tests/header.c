@@ -3,7 +3,7 @@
 
 #include <stdio.h>
 
-#if APPTBOOK_VERSION < 2
+#if APPTBOOK_VERSION < 3
 #error "a version that the preprocessor can compare"
 #endif
 

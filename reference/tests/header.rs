@@ -156,8 +156,10 @@ mod pages {
     }
 
     const CALLS: &str = "\
+default_last 1
 falls_on 0 0 1
 falls_on 0 0 0
+falls_on 0 0 1
 falls_on 0 0 1
 falls_on 10 0 0
 next_occurrence 0 0 61 4899 1

@@ -149,6 +149,7 @@ static apptbook_count_answer see_chains(const uint8_t *file, size_t len) {
 /* The numbers that all calls give for it, whatever it is. */
 static void see_numbers(const uint8_t *file, size_t len) {
     uint8_t byte = 0;
+    see(apptbook_default_last());
     see(apptbook_record(file, len, SIZE_MAX).number);
     see(apptbook_note_lines(file, len, 0).number);
     see(apptbook_note_line(file, len, 0, SIZE_MAX).number);

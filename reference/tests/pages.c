@@ -35,9 +35,11 @@ int main(void) {
 
     printf("sizes %zu %zu %zu %zu\n", sizeof(apptbook_falls_answer), sizeof(apptbook_occurrence_answer),
            sizeof written, sizeof(apptbook_page_line_answer));
+    printf("default_last %d\n", apptbook_default_last());
     print_falls(apptbook_falls_on(file, sizeof file, 0, 4822, false));
     print_falls(apptbook_falls_on(file, sizeof file, 1, 4868, false));
     print_falls(apptbook_falls_on(file, sizeof file, 1, 4868, true));
+    print_falls(apptbook_falls_on(file, sizeof file, 1, 4868, apptbook_default_last()));
     print_falls(apptbook_falls_on(file, sizeof file, 2, 4868, true));
     print_next(apptbook_next_occurrence(file, sizeof file, 1, 4839, false));
     print_next(apptbook_next_occurrence(file, sizeof file, 1, 4839, true));

@@ -95,9 +95,10 @@ fn the_c_example() {
     fs::write(folder.join("example.c"), code).expect("a file");
     let blocks = indented(&text);
     let at = beginning(&blocks, "cc -Iinclude example.c ");
-    assert!(blocks[at].ends_with("\n./example < examples/case.book\n"), "{}", blocks[at]);
-    assert_eq!(plain(shell(&folder, &blocks[at])), "kind 1: Dep\n");
-    assert_eq!(blocks[at + 1], "kind 1: Dep\n");
+    assert!(blocks[at].ends_with("\n./example < examples/monthly.book\n"), "{}", blocks[at]);
+    assert_eq!(plain(shell(&folder, &blocks[at])), "kind 3: List, next on day 4868\n");
+    assert_eq!(blocks[at + 1], "kind 3: List, next on day 4868\n");
+    assert_eq!(plain(shell(&folder, "./example < examples/case.book\n")), "kind 1: Dep\n");
     assert_eq!(shell(&folder, "head -c 32 examples/case.book | ./example || true\n"), b"4 30\n");
 }
 
@@ -141,17 +142,34 @@ fn the_example_of_day_chains() {
 #[test]
 fn the_page() {
     let blocks = indented(&readme());
-    let at = beginning(&blocks, "./run 4822 <");
-    assert_eq!(blocks[at], "./run 4822 < examples/case.book\n");
+    let at = beginning(&blocks, "./run 4822 last <");
+    assert_eq!(blocks[at], "./run 4822 last < examples/case.book\n");
     assert_eq!(shell(&folder("page"), &blocks[at]), PAGE.as_bytes());
     assert_eq!(blocks[at + 1], PAGE);
+}
+
+/// With either word, and without it.
+#[test]
+fn the_short_month() {
+    const MOVED: &str = "1993-04-30 Fri 1\n10:00-11:00 List\n";
+    let text = readme();
+    let blocks = indented(&text);
+    let at = beginning(&blocks, "./run 4868 ");
+    assert_eq!(blocks[at], "./run 4868 last < examples/monthly.book\n");
+    let folder = folder("short-month");
+    assert_eq!(plain(shell(&folder, &blocks[at])), MOVED);
+    assert_eq!(blocks[at + 1], MOVED);
+    assert!(text.contains("\nand with `skip` in its place `1993-04-30 Fri 0`. "));
+    assert_eq!(plain(shell(&folder, &blocks[at].replace("last", "skip"))), "1993-04-30 Fri 0\n");
+    assert!(text.contains(" Without the word the answer is the refusal `11 0`."));
+    assert_eq!(plain(shell(&folder, &blocks[at].replace(" last", ""))), "11 0\n");
 }
 
 #[test]
 fn the_export() {
     let blocks = indented(&readme());
-    let at = beginning(&blocks, "./run 4822 1 <");
-    assert_eq!(blocks[at], "./run 4822 1 < examples/case.book > case.cal\n");
+    let at = beginning(&blocks, "./run 4822 1 ");
+    assert_eq!(blocks[at], "./run 4822 1 last < examples/case.book > case.cal\n");
     let folder = folder("export");
     assert_eq!(shell(&folder, &blocks[at]), b"");
     let written = fs::read(folder.join("case.cal")).expect("the file written");

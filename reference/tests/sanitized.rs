@@ -108,6 +108,7 @@ impl Hash {
     fn numbers(&mut self, file: &[u8]) {
         use ShortMonth::{Last, Skip};
         let far = usize::MAX;
+        self.number(usize::from(pages::DEFAULT == Last));
         self.refusal(book::record(file, far));
         self.refusal(book::note_lines(file, 0));
         self.refusal(book::note_line(file, 0, far));

@@ -1,10 +1,10 @@
 //! The calls that give a text or a note as a stretch of the caller's own file, which cannot come over to C: the
-//! test program `textdump` makes them, as a process, and writes what they give.
+//! test program `textdump` makes them, as a process, and writes what they give. It names no short-month choice.
 
 use reference::books::{book_near, edge_day, long, small, Cases, Draft, Field, File};
 use reference::calendar::day_appointments;
 use reference::export::export;
-use reference::pages::{page, ShortMonth};
+use reference::pages::{page, DEFAULT};
 use reference::process::{self, apptbook};
 use reference::program::ROOM;
 use reference::rng::Rng;
@@ -28,13 +28,12 @@ fn expected_dump(file: &[u8], day: Option<u16>) -> Vec<u8> {
         put(&file[record.text]);
         put(&file[record.note]);
     }
-    let choice = ShortMonth::default();
     let day = day.unwrap_or(u16::MAX);
-    for line in page(file, day, choice).unwrap_or_default() {
+    for line in page(file, day, DEFAULT).unwrap_or_default() {
         put(&file[line.text]);
     }
     let mut calendar = vec![0; ROOM];
-    if let Ok(length) = export(file, day, 1, choice, &mut calendar) {
+    if let Ok(length) = export(file, day, 1, DEFAULT, &mut calendar) {
         for appointment in day_appointments(&calendar[..length], day).expect("a right file") {
             put(&calendar[appointment.text]);
         }
@@ -68,6 +67,22 @@ fn texts_by_hand() {
     assert_eq!(run(&["0"], &every_kind()), [&texts[..], b"\n\n"].concat());
 }
 
+/// A record of each 31st is there on 30 April 1993, once on the page and once in the export, and on no other day of
+/// that month: the choice of a caller who names none is last.
+#[test]
+fn no_choice_is_last() {
+    let mut monthly = small(3, &mut Rng::new(1));
+    monthly.put(Field::Day, [31]);
+    monthly.put(Field::Dates, [93, 1, 1, 93, 12, 31]);
+    let book = File::new([0, 0, 30, 0, 0, 0, 0], &[monthly]).bytes;
+    let (record, shown) = (compare(&book, 4_867), compare(&book, 4_868));
+    let text = record.split_inclusive(|&byte| byte == b'\n').next().expect("a text");
+    assert_eq!(shown, [&record[..], text, text].concat());
+    for day in 4_839..4_867 {
+        assert_eq!(compare(&book, day), record, "day {day}");
+    }
+}
+
 /// No day, or none that is one: the records alone. A refused book: nothing.
 #[test]
 fn words_and_refusals() {
@@ -96,7 +111,7 @@ fn random_books() {
             _ => book_near(day, rng.within(0..=12), &mut rng).bytes,
         };
         compare(&file, day);
-        match page(&file, day, ShortMonth::Skip) {
+        match page(&file, day, DEFAULT) {
             Ok(lines) if lines.len() > 1 => with_lines += 1,
             Ok(_) => without += 1,
             Err(_) => refused += 1,

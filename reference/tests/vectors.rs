@@ -1,19 +1,26 @@
 //! The open vectors, made by an independent model of the papers: each case by the library and by the reference.
 
 use apptbook::raw::book::BookAnswer;
-use apptbook::raw::pages::CountAnswer;
+use apptbook::raw::pages::{CountAnswer, FallsAnswer, OccurrenceAnswer, PageLineAnswer};
 use reference::calendar;
 use reference::calls::{Calls, PLAIN, PROVED};
 use reference::cases::{cases, word, Case};
+
+/// The requests that have landed: a case that holds until one of them is left out.
+const LANDED: [u16; 4] = [1, 2, 3, 5];
 
 /// The answer's words, and nothing of the question is left.
 fn answer(mut case: Case, calls: &Calls) -> String {
     let answer = match case.call {
         "read" => read(&mut case, calls),
+        "falls" => falls(&mut case, calls),
+        "next" => next(&mut case, calls),
+        "page" => page(&mut case, calls),
         "print" => print(&mut case, calls),
         "export" => export(&mut case, calls),
         "rewrite" => rewrite(&mut case, calls),
         "chains" => chains(&mut case, calls),
+        "program" => program(&mut case, calls),
         call => panic!("{}: unknown call {call}", case.name),
     };
     case.end();
@@ -34,6 +41,40 @@ fn read(case: &mut Case, calls: &Calls) -> String {
     }
 }
 
+fn falls(case: &mut Case, calls: &Calls) -> String {
+    let (book, record, day) = (case.bytes("book"), case.number("record"), case.number("day"));
+    match (calls.falls_on)(&book, record.into(), day, case.choice(calls.default_choice())) {
+        FallsAnswer { number: 0, place: 0, falls } => format!("ok {}", if falls { "yes" } else { "no" }),
+        refusal => refused(refusal.number, refusal.place),
+    }
+}
+
+fn next(case: &mut Case, calls: &Calls) -> String {
+    let (book, record, day) = (case.bytes("book"), case.number("record"), case.number("day"));
+    match (calls.next_occurrence)(&book, record.into(), day, case.choice(calls.default_choice())) {
+        OccurrenceAnswer { number: 0, place: 0, found: true, day, looked } => {
+            format!("ok found {day} {looked}")
+        }
+        OccurrenceAnswer { number: 0, place: 0, found: false, day: 0, looked } => format!("ok none {looked}"),
+        refusal => refused(refusal.number, refusal.place),
+    }
+}
+
+fn page(case: &mut Case, calls: &Calls) -> String {
+    let (book, day, choice) = (case.bytes("book"), case.number("day"), case.choice(calls.default_choice()));
+    let count = match (calls.page_lines)(&book, day, choice) {
+        CountAnswer { number: 0, place: 0, count } => count,
+        refusal => return refused(refusal.number, refusal.place),
+    };
+    let lines = (0..count).map(|line| {
+        let line: PageLineAnswer = (calls.page_line)(&book, day, choice, line);
+        assert_eq!((line.number, line.place), (0, 0));
+        let text = word(&book[line.text_at..line.text_at + line.text_length]);
+        format!(" {}:{}:{}:{}:{text}", line.record, line.start, line.end, u8::from(line.alarm))
+    });
+    format!("ok {count}{}", lines.collect::<String>())
+}
+
 /// What a call wrote to such a buffer; the rest of it is to stay as it was.
 fn written(room: usize, write: impl FnOnce(&mut [u8]) -> CountAnswer) -> String {
     const BEFORE: u8 = 0xEE;
@@ -47,13 +88,13 @@ fn written(room: usize, write: impl FnOnce(&mut [u8]) -> CountAnswer) -> String 
 }
 
 fn print(case: &mut Case, calls: &Calls) -> String {
-    let (book, day, choice) = (case.bytes("book"), case.number("day"), case.choice());
+    let (book, day, choice) = (case.bytes("book"), case.number("day"), case.choice(calls.default_choice()));
     let room = (calls.page_length)(&book, day, choice).count + 9;
     written(room, |buffer| (calls.print_page)(&book, day, choice, buffer))
 }
 
 fn export(case: &mut Case, calls: &Calls) -> String {
-    let (book, choice) = (case.bytes("book"), case.choice());
+    let (book, choice) = (case.bytes("book"), case.choice(calls.default_choice()));
     let (first, count) = (case.number("first"), case.number("count"));
     written(calendar::LONGEST, |buffer| (calls.export)(&book, first, count, choice, buffer))
 }
@@ -75,9 +116,15 @@ fn chains(case: &mut Case, calls: &Calls) -> String {
     }
 }
 
-/// Runs all cases; gives how many there are.
+fn program(case: &mut Case, calls: &Calls) -> String {
+    let (words, book) = (case.words("args"), case.bytes("book"));
+    format!("ok {}", word(&(calls.program)(&words, &book)))
+}
+
+/// Runs all cases that hold; gives how many they are.
 fn run(text: &str, calls: &Calls) -> usize {
-    let all = cases(text);
+    let mut all = cases(text);
+    all.retain(|case| case.until.is_none_or(|request| !LANDED.contains(&request)));
     let mut names: Vec<&str> = all.iter().map(|case| case.name).collect();
     names.sort();
     assert!(names.windows(2).all(|pair| pair[0] != pair[1]), "a name twice");
@@ -116,6 +163,7 @@ macro_rules! vectors {
 
 vectors!(r01, "vectors/r01.txt", 505);
 vectors!(r02, "vectors/r02.txt", 528);
+vectors!(r03, "vectors/r03.txt", 582);
 
 /// What `run` is to find fault with, on the case of document 01.
 mod faults {
@@ -123,6 +171,8 @@ mod faults {
 
     const BOOK: &str = "ffff010001e0011e00010500010f00015d030f0258940205030000446570320000";
     const ANSWER: &str = "ok 1 480 30 1 5 0";
+    /// On the 31st, at 0:00.
+    const MONTHLY: &str = "ffff010001e0011e00010500031000001f00005001010000c70c1f00000000320000";
 
     fn run(text: &str) -> usize {
         super::run(text, &PLAIN)
@@ -187,6 +237,34 @@ mod faults {
     #[should_panic(expected = "a: kinds is ")]
     fn two_spaces_in_a_list() {
         run("case a\ncall chains\ntable -\nprevious\nnext\nkinds 0  1\nminutes\nanswer refused 30 0\n");
+    }
+
+    #[test]
+    fn words() {
+        let run = |args: &str, answer: &str| {
+            run(&format!("case a\ncall program\nargs{args}\nbook {BOOK}\nanswer ok {answer}\n"))
+        };
+        assert_eq!(run(" 34383231 6c617374", "313939332d30332d31342053756e20300a"), 1);
+        assert_eq!(run(" -", "313120300a"), 1);
+        assert_eq!(run("", "313120300a"), 1);
+    }
+
+    #[test]
+    fn a_request_that_changes_the_answer() {
+        assert_eq!(read("", "ok 1 480 30 1 5 0\nuntil 99"), 1);
+        assert_eq!(read("", "something else\nuntil 3"), 0);
+    }
+
+    #[test]
+    #[should_panic(expected = "a: until is x")]
+    fn a_request_without_a_number() {
+        read("", "ok 1 480 30 1 5 0\nuntil x");
+    }
+
+    #[test]
+    #[should_panic(expected = "a: ok 1 0:0:0:0:-, not ok 0")]
+    fn a_choice_that_is_not_named() {
+        run(&format!("case a\ncall page\nbook {MONTHLY}\nday 4868\nchoice none\nanswer ok 0\n"));
     }
 
     #[test]

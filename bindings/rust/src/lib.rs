@@ -6,11 +6,12 @@
 //! stack.
 //!
 //! ```
-//! use apptbook::{page_length, print_page, ShortMonth::Skip};
+//! use apptbook::{page_length, print_page, ShortMonth};
 //!
 //! let book = std::fs::read("../../examples/case.book")?;
-//! let mut page = vec![0; page_length(&book, 4822, Skip)?];
-//! print_page(&book, 4822, Skip, &mut page)?;
+//! let choice = ShortMonth::default();
+//! let mut page = vec![0; page_length(&book, 4822, choice)?];
+//! print_page(&book, 4822, choice, &mut page)?;
 //! assert_eq!(page, b"1993-03-15 Mon 1\n10:00-11:00 Dep\n");
 //! # Ok::<(), Box<dyn std::error::Error>>(())
 //! ```
@@ -49,4 +50,4 @@ pub use refusals::Refusal;
 pub use writer::{add, close, open, Writer};
 
 /// `APPTBOOK_VERSION` of the header that this crate follows: raised whenever a call is added or changed.
-pub const VERSION: u32 = 2;
+pub const VERSION: u32 = 3;

@@ -4,14 +4,24 @@
 use crate::raw::pages as raw;
 use crate::Refusal;
 
-/// What becomes of a monthly or yearly day that its month does not have.
-#[derive(Clone, Copy, Debug, Default, PartialEq, Eq)]
+/// What becomes of a monthly or yearly day that its month does not have. Who has no wish takes the default.
+#[derive(Clone, Copy, Debug, PartialEq, Eq)]
 pub enum ShortMonth {
     /// The record shows on no day of that month.
-    #[default]
     Skip,
     /// It shows on the month's last day.
     Last,
+}
+
+/// The library's own choice for a caller who names none, which is [`ShortMonth::Last`].
+impl Default for ShortMonth {
+    fn default() -> Self {
+        if raw::default_last() {
+            ShortMonth::Last
+        } else {
+            ShortMonth::Skip
+        }
+    }
 }
 
 impl ShortMonth {

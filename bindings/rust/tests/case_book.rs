@@ -106,6 +106,7 @@ fn short_months() {
     let next = |choice| next_occurrence(&buffer, 0, 4_839, choice).unwrap().day;
     assert_eq!(next(Skip), Some(4_899)); // 31 May
     assert_eq!(next(Last), Some(4_868)); // 30 April
+    assert_eq!(next(ShortMonth::default()), Some(4_868), "who names none gets last");
 }
 
 #[test]

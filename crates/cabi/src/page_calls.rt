@@ -1,12 +1,14 @@
-// Day pages, lent and printed, and the next occurrence.
+// Day pages, lent and printed, the next occurrence, and the short-month choice of a caller who names none.
 ghost use mathlib.Core.Path.{_≡_};
 ghost use lib.ListN.{length};
+ghost use Rattle.falls.specs.Falls.{defaultChoice};
 ghost use Rattle.pages.specs.Answers.{pageCount, pageLineAt, nextOccurrence, recordFalls};
 ghost use Rattle.pages.specs.Pages.{fallsOn};
 ghost use Rattle.printing.specs.Answers.{pageLength, printGives, printLeft};
 ghost use Rattle.marshal.specs.PageAnswers.{choiceOf, dayOf, fallsOut, pageLineOut, nextOut};
 ghost use Rattle.marshal.specs.CountAnswers.{countOut};
 use days::types::CalendarDay;
+use falls::choice::default_choice;
 use falls::types::ShortMonth;
 use marshal::count_answers::CountOut;
 use marshal::count_answers::count_out;
@@ -15,8 +17,17 @@ use marshal::page_answers::OccurrenceOut;
 use marshal::page_answers::PageLineOut;
 use marshal::page_answers::choice_of;
 use marshal::page_answers::falls_out;
+use marshal::page_answers::last_of;
 use marshal::page_answers::next_out;
 use marshal::page_answers::page_line_out;
+
+#[no_mangle]
+pub extern "C" fn apptbook_default_last() -> bool
+    ensures { λ r. ⌜ choiceOf r ≡ defaultChoice ⌝ }
+{
+    let c: ShortMonth = default_choice();
+    last_of(c)
+}
 
 #[no_mangle]
 pub extern "C" fn apptbook_falls_on(file: &[u8], record: usize, day: u16, last: bool) -> FallsOut

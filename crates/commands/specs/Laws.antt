@@ -5,3 +5,4 @@ pub mod SameDays
 pub mod SameRecords
 pub mod SameAnswers
 pub mod Words
+pub mod WithoutWord

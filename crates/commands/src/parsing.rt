@@ -1,12 +1,11 @@
 // From words to a command.
 ghost use mathlib.Core.Path.{_≡_};
 ghost use Rattle.commands.specs.Words.{spelled, wordOf};
-ghost use Rattle.commands.specs.Commands.{oneWord, twoWords, threeWords, commandOf};
+ghost use Rattle.commands.specs.Commands.{pageWords, exportWords, commandOf};
 use crate::types::Command;
 use crate::types::Word;
 use digits::words::is_number;
 use digits::words::number_of;
-use falls::choice::default_choice;
 use falls::types::ShortMonth;
 
 // Whether a word is just these four letters.
@@ -47,31 +46,22 @@ pub fn word_of(w: &[u8]) -> Word
     Word::Other
 }
 
-fn one_word(a: Word) -> Command
-    ensures { λ r. ⌜ r ≡ oneWord a ⌝ }
-{
-    let Word::Number(d) = a else {
-        return Command::Unknown;
-    };
-    Command::Page(d, default_choice())
-}
-
-fn two_words(a: Word, b: Word) -> Command
-    ensures { λ r. ⌜ r ≡ twoWords a b ⌝ }
+fn page_words(a: Word, b: Word) -> Command
+    ensures { λ r. ⌜ r ≡ pageWords a b ⌝ }
 {
     let Word::Number(d) = a else {
         return Command::Unknown;
     };
     match b {
-        Word::Number(k) => Command::Export(d, k, default_choice()),
+        Word::Number(_) => Command::Unknown,
         Word::Skip => Command::Page(d, ShortMonth::Skip),
         Word::Last => Command::Page(d, ShortMonth::Last),
         Word::Other => Command::Unknown,
     }
 }
 
-fn three_words(a: Word, b: Word, c: Word) -> Command
-    ensures { λ r. ⌜ r ≡ threeWords a b c ⌝ }
+fn export_words(a: Word, b: Word, c: Word) -> Command
+    ensures { λ r. ⌜ r ≡ exportWords a b c ⌝ }
 {
     let Word::Number(d) = a else {
         return Command::Unknown;
@@ -91,14 +81,11 @@ fn three_words(a: Word, b: Word, c: Word) -> Command
 pub fn command_of(n: usize, a: Word, b: Word, c: Word) -> Command
     ensures { λ r. ⌜ r ≡ commandOf n a b c ⌝ }
 {
-    if n == 1 {
-        return one_word(a);
-    }
     if n == 2 {
-        return two_words(a, b);
+        return page_words(a, b);
     }
     if n == 3 {
-        return three_words(a, b, c);
+        return export_words(a, b, c);
     }
     Command::Unknown
 }

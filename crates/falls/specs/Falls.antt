@@ -14,9 +14,9 @@ use Rattle.records.specs.declared.types.Yearly.{Yearly}
 use Rattle.records.specs.declared.types.Record.{Record}
 use Rattle.falls.specs.declared.types.ShortMonth.{ShortMonth}
 
--- "A caller that names none gets skip."
-abbrev pub defaultChoice : ShortMonth
-defaultChoice = ShortMonth.Skip
+-- document 02, R-3: "A caller that names no choice now gets last."
+unfoldable pub defaultChoice : ShortMonth
+defaultChoice = ShortMonth.Last
 
 -- "Type 1: on its date."
 unfoldable pub datedFalls : DayFacts → Dated → Bool

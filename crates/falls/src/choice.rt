@@ -1,4 +1,4 @@
-// The short-month choice of a caller that names none.
+// The short-month choice of a caller that names none. Which one it is stands here and in its definition alone.
 ghost use mathlib.Core.Path.{_≡_};
 ghost use Rattle.falls.specs.Falls.{defaultChoice};
 use crate::types::ShortMonth;
@@ -6,5 +6,5 @@ use crate::types::ShortMonth;
 pub fn default_choice() -> ShortMonth
     ensures { λ r. ⌜ r ≡ defaultChoice ⌝ }
 {
-    ShortMonth::Skip
+    ShortMonth::Last
 }

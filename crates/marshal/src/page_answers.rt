@@ -43,6 +43,16 @@ pub fn choice_of(last: bool) -> ShortMonth
     ShortMonth::Skip
 }
 
+// The flag that names a choice.
+pub fn last_of(c: ShortMonth) -> bool
+    ensures { λ r. ⌜ choiceOf r ≡ c ⌝ }
+{
+    match c {
+        ShortMonth::Skip => false,
+        ShortMonth::Last => true,
+    }
+}
+
 pub fn falls_out(a: FallsAnswer) -> FallsOut
     ensures { λ r. ⌜ r ≡ fallsOut a ⌝ }
 {

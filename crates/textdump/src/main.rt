@@ -1,4 +1,4 @@
-// A test program: it writes what the calls that give a stretch of the caller's own file give, which no caller in C can have. A book on standard input, a Calendar day as first word.
+// A test program: it writes what the calls that give a stretch of the caller's own file give, which no caller in C can have. A book on standard input, a Calendar day as first word; the short-month choice is that of a caller who names none.
 ghost use Prim.Native.Nat.{_≤_};
 ghost use lib.ListN.{length};
 use book::entries::note_at;

@@ -98,6 +98,7 @@ fn likely_day(file: &[u8], rng: &mut Rng) -> u16 {
 }
 
 fn showing(look: &mut Look, file: &[u8], rng: &mut Rng) {
+    look.same("default_last", raw::pages::default_last(), pages::DEFAULT == ShortMonth::Last);
     let (day, choice) = (likely_day(file, rng), numbers::choice(rng));
     let record = numbers::long(book::read_book(file).map_or(3, |book| book.records), rng);
     let falls = pages::falls_on(file, record, day, choice);

@@ -50,7 +50,8 @@ fn words(rng: &mut Rng) -> Vec<Vec<u8>> {
         9..12 => vec![number(numbers::day(rng), rng), number(rng.within(0..=366) as u16, rng)],
         _ => vec![number(numbers::day(rng), rng)],
     };
-    if rng.one_in(2) {
+    // Without the word all is refused.
+    if !rng.one_in(6) {
         words.push(rng.pick(&["skip", "last"]).into());
     }
     // All words together may not be longer than the system hands over.

@@ -27,17 +27,17 @@ fn long_books() {
     let mut rng = Rng::for_test("long_books");
     for size in [4_095, 4_096, 32_768, 65_534, 65_535] {
         let file = full_book(size, &mut rng);
-        assert!(compare(&words([b"4822"]), &file).len() > size / 2);
+        assert!(compare(&words([b"4822", b"last"]), &file).len() > size / 2);
         compare(&words([b"4821", b"last"]), &file);
-        compare(&words([b"43830"]), &file);
+        compare(&words([b"43830", b"last"]), &file);
     }
     let file = full_book(65_535, &mut rng);
     for more in [1, 2, 465, 65_535, 65_536, 1_000_000, 8_000_000] {
         let input = [&file[..], &vec![b'x'; more]].concat();
-        assert_eq!(compare(&words([b"4822"]), &input), b"1 0\n", "{more} more");
+        assert_eq!(compare(&words([b"4822", b"last"]), &input), b"1 0\n", "{more} more");
         assert_eq!(compare(&[], &input), b"1 0\n", "{more} more");
     }
-    assert_eq!(compare(&words([b"4822"]), &vec![0; 3_000_000]), b"1 0\n");
+    assert_eq!(compare(&words([b"4822", b"last"]), &vec![0; 3_000_000]), b"1 0\n");
 }
 
 /// Filled up to a block of 128 bytes, as it comes over a modem.
@@ -64,13 +64,13 @@ fn the_longest_filled_books() {
     let mut rng = Rng::for_test("the_longest_filled_books");
     for count in [1, 126, 127] {
         let book = full_book(65_535 - count, &mut rng);
-        let page = compare(&words([b"4822"]), &book);
+        let page = compare(&words([b"4822", b"last"]), &book);
         assert!(page.len() > 30_000);
         let file = [book, fillers(count)].concat();
-        assert!(compare(&words([b"4822"]), &file) == page);
+        assert!(compare(&words([b"4822", b"last"]), &file) == page);
         for more in [1, 2, 128, 100_000] {
             let input = [&file[..], &fillers(more)].concat();
-            assert_eq!(compare(&words([b"4822"]), &input), b"1 0\n", "{count} and {more}");
+            assert_eq!(compare(&words([b"4822", b"last"]), &input), b"1 0\n", "{count} and {more}");
         }
     }
 }
@@ -80,7 +80,7 @@ fn the_longest_filled_books() {
 fn slow_books() {
     let mut rng = Rng::for_test("slow_books");
     let full = full_book(65_535, &mut rng);
-    let command = words([b"4822"]);
+    let command = words([b"4822", b"last"]);
     for (file, lengths) in [
         (WHOLE_CASE.to_vec(), &[1, 2, 5, 32][..]),
         (filled(95), &[1, 33, 127]),
@@ -106,14 +106,14 @@ fn without_input(words: &[&str], how: &str) -> Vec<u8> {
 
 #[test]
 fn empty_input() {
-    for words in [&["4822"][..], &["4822", "last"], &["43830"], &["x"], &[]] {
+    for words in [&["4822", "last"][..], &["4822", "1", "skip"], &["43830", "last"], &["4822"], &[]] {
         assert_eq!(without_input(words, "</dev/null"), b"2 0\n", "{words:?}");
     }
 }
 
 #[test]
 fn closed_input() {
-    for words in [&["4822"][..], &["x"], &[]] {
+    for words in [&["4822", "last"][..], &["4822"], &[]] {
         assert_eq!(without_input(words, "<&-"), b"2 0\n", "{words:?}");
     }
 }

@@ -59,7 +59,7 @@ fn said(words: &[&str], how: &str) -> Vec<u8> {
     stdout
 }
 
-const COMMANDS: [&[&str]; 4] = [&["4822"], &["4822", "1"], &["x"], &[]];
+const COMMANDS: [&[&str]; 4] = [&["4822", "last"], &["4822", "1", "skip"], &["4822"], &[]];
 
 /// What cannot be written is lost, and nothing says so.
 #[test]
@@ -73,7 +73,7 @@ fn closed_or_full_output() {
 
 #[test]
 fn closed_standard_error() {
-    assert_eq!(said(&["4822"], "2>&-"), PAGE);
+    assert_eq!(said(&["4822", "last"], "2>&-"), PAGE);
 }
 
 /// Reading fails, or gives nothing: the same as an empty book.
@@ -92,7 +92,7 @@ fn input_without_an_end() {
     for words in COMMANDS {
         assert_eq!(said(words, "</dev/zero"), b"1 0\n", "{words:?}");
     }
-    let mut child = command(&words([b"4822"])).spawn().expect("the program");
+    let mut child = command(&words([b"4822", b"last"])).spawn().expect("the program");
     let mut pipe = child.stdin.take().expect("a pipe");
     let piece = vec![b'x'; 65_536];
     // 200 MB, of which it takes few.
@@ -108,7 +108,7 @@ fn input_without_an_end() {
 /// Each byte by itself, most of them read before the next is written.
 #[test]
 fn one_byte_at_a_time() {
-    let mut child = command(&words([b"4822"])).spawn().expect("the program");
+    let mut child = command(&words([b"4822", b"last"])).spawn().expect("the program");
     let mut pipe = child.stdin.take().expect("a pipe");
     for byte in WHOLE_CASE {
         pipe.write_all(&[byte]).expect("a reader");
@@ -126,7 +126,7 @@ fn one_byte_at_a_time() {
 fn input_that_is_not_there_yet() {
     let (ours, theirs) = UnixStream::pair().expect("sockets");
     theirs.set_nonblocking(true).expect("a socket");
-    let mut command = command(&words([b"4822"]));
+    let mut command = command(&words([b"4822", b"last"]));
     let mut child = command.stdin(OwnedFd::from(theirs)).spawn().expect("the program");
     assert!(end(&mut child).success());
     drop(ours);
@@ -163,7 +163,7 @@ fn a_reader_that_is_gone() {
 /// 512 kB of stack are enough; with 300 it would crash.
 #[test]
 fn a_small_stack() {
-    for (words, expected) in [(&["4822"][..], PAGE), (&["4822", "367"], b"11 0\n")] {
+    for (words, expected) in [(&["4822", "last"][..], PAGE), (&["4822", "367", "last"], b"11 0\n")] {
         let script = "ulimit -s 512 && exec \"$0\" \"$@\" <../examples/case.book";
         let mut command = Command::new("sh");
         command.args(["-c", script]).arg(apptbook()).args(words);
@@ -193,7 +193,7 @@ fn a_slow_reader() {
         draft
     };
     let book = File::full(65_535, record).bytes;
-    let line = words([b"4822"]);
+    let line = words([b"4822", b"last"]);
     let expected = output(&line, &book);
     assert!(expected.len() > 50_000);
     for piece in [1, 7, 5_000] {

@@ -1,13 +1,54 @@
-//! Command lines: made at random, with long words, with many words.
+//! Command lines: of every shape, made at random, with long words, with many words.
 
-use super::compare;
+use super::{compare, run};
 use reference::books::{book_near, edge_day, Cases};
 use reference::rng::Rng;
+use reference::vectors::calendars;
 use reference::vectors::commands::PAGES;
 use reference::vectors::WHOLE_CASE;
-use std::slice;
 
 const REFUSED: &[u8] = b"11 0\n";
+
+/// Two numbers, the word in both forms, and what is neither.
+const WORDS: [&str; 5] = ["4822", "1", "skip", "last", "Last"];
+
+/// All command lines of so many of them.
+fn lines(count: usize) -> Vec<Vec<&'static str>> {
+    match count {
+        0 => vec![vec![]],
+        _ => lines(count - 1)
+            .into_iter()
+            .flat_map(|line| WORDS.map(|word| [&line[..], &[word]].concat()))
+            .collect(),
+    }
+}
+
+/// What the line asks for of the whole case, by hand: without the word it is 11, whatever else is there.
+fn asked(line: &[&str]) -> Vec<u8> {
+    match line {
+        ["4822", "skip" | "last"] => PAGES[0].1.to_vec(),
+        ["1", "skip" | "last"] => b"1980-01-02 Wed 0\n".to_vec(),
+        ["4822", "1", "skip" | "last"] => calendars::whole_case(),
+        ["1", "1", "skip" | "last"] => calendars::empty(),
+        _ => REFUSED.to_vec(),
+    }
+}
+
+/// Up to four words; of a book that is cut short they all get the book's own refusal.
+#[test]
+fn every_shape() {
+    let all: Vec<_> = (0..=4).flat_map(lines).collect();
+    assert_eq!(all.len(), 1 + 5 + 25 + 125 + 625);
+    let mut answered = 0;
+    for line in all {
+        let words: Vec<Vec<u8>> = line.iter().map(|word| word.as_bytes().to_vec()).collect();
+        let expected = asked(&line);
+        assert!(run(&words, &WHOLE_CASE) == expected, "{line:?}");
+        assert_eq!(run(&words, &WHOLE_CASE[..32]), b"4 30\n", "{line:?}");
+        answered += usize::from(expected != REFUSED);
+    }
+    assert_eq!(answered, 8);
+}
 
 /// A word of a command line that may be right: most often the day.
 fn random_word(day: u16, rng: &mut Rng) -> Vec<u8> {
@@ -33,11 +74,10 @@ fn random_word(day: u16, rng: &mut Rng) -> Vec<u8> {
 fn random_words(day: u16, rng: &mut Rng) -> Vec<Vec<u8>> {
     let numbers = rng.pick(&[1, 1, 1, 1, 2, 3, 0]);
     let mut words: Vec<_> = (0..numbers).map(|_| random_word(day, rng)).collect();
-    for word in [&b"skip"[..], b"last"] {
-        if rng.one_in(3) {
-            let at = if rng.one_in(8) { rng.within(0..=words.len()) } else { words.len() };
-            words.insert(at, word.to_vec());
-        }
+    // Most often the word, once.
+    for _ in 0..rng.pick(&[0, 1, 1, 1, 1, 1, 1, 2]) {
+        let at = if rng.one_in(8) { rng.within(0..=words.len()) } else { words.len() };
+        words.insert(at, rng.pick(&["skip", "last"]).into());
     }
     words
 }
@@ -68,12 +108,16 @@ fn long_words() {
     for length in [64, 255, 256, 4_095, 4_096, 65_535, 65_536, 65_540, 131_070, 131_071] {
         let zeros = vec![b'0'; length - 4];
         let number = [&zeros[..], b"4822"].concat();
-        page(slice::from_ref(&number));
+        page(&[number.clone(), b"skip".to_vec()]);
         page(&[number.clone(), b"last".to_vec()]);
-        refused(&[[&zeros[..], b"482x"].concat()]);
-        refused(&[[b"x", &zeros[..], b"482"].concat()]);
-        refused(&[[b"4822", &zeros[..]].concat()]);
-        refused(&[vec![b'9'; length]]);
+        for wrong in [
+            [&zeros[..], b"482x"].concat(),
+            [b"x", &zeros[..], b"482"].concat(),
+            [b"4822", &zeros[..]].concat(),
+            vec![b'9'; length],
+        ] {
+            refused(&[wrong, b"last".to_vec()]);
+        }
         refused(&[b"4822".to_vec(), [b"skip", &zeros[..]].concat()]);
         refused(&[b"4822".to_vec(), vec![b'l'; length]]);
         refused(&vec![number; 4]);

@@ -78,6 +78,8 @@ fn reading(tally: &mut Tally, file: &[u8], record: usize, rng: &mut Rng) {
 }
 
 fn showing(tally: &mut Tally, file: &[u8], record: usize, day: u16, choice: ShortMonth, rng: &mut Rng) {
+    tally.add("default_last", 0);
+    assert_eq!(ShortMonth::default() == ShortMonth::Last, raw::default_last());
     let by_raw = raw::falls_on(file, record, day, choice);
     same!(tally, "falls_on", apptbook::falls_on(file, record, day, choice), by_raw, answer => answer.falls);
     let next = apptbook::next_occurrence(file, record, day, choice);

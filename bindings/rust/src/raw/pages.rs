@@ -3,6 +3,9 @@
 use crate::ShortMonth;
 
 unsafe extern "C" {
+    // It takes nothing, so it is safe.
+    #[link_name = "apptbook_default_last"]
+    pub safe fn default_last() -> bool;
     pub fn apptbook_falls_on(file: *const u8, len: usize, record: usize, day: u16, last: bool)
         -> FallsAnswer;
     pub fn apptbook_next_occurrence(

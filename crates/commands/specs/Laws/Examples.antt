@@ -11,7 +11,7 @@ use Rattle.pages.specs.Answers.{validatedDay, validated}
 use Rattle.printing.specs.Laws.Examples.{caseHead, caseLine, case-page}
 use Rattle.export.specs.Laws.Examples.{case-file, case-answers}
 use Rattle.commands.specs.Words.{spelled, wordOf}
-use Rattle.commands.specs.Commands.{withNumber, withChoice, oneWord, afterDay, twoWords, threeWords, commandOf}
+use Rattle.commands.specs.Commands.{withNumber, withChoice, pageWords, exportWords, commandOf}
 use Rattle.commands.specs.Responses.{refusalText, pageResponse, exportText, exportResponse, response}
 use Rattle.commands.specs.declared.types.Word.{Word}
 use Rattle.commands.specs.declared.types.Command.{Command}
@@ -23,17 +23,23 @@ pub words :
 unfolding wordOf spelled isNumber allDigits value valueFrom capped ifLt ifEq ifB
 words = (refl, refl, refl, refl, refl, refl)
 
--- a day; a day and a choice; a first day and a count; the two and a choice
+-- a day and the word; a first day, a count and the word
 pub commands :
-    (commandOf 1 (Word.Number 4822) Word.Other Word.Other ≡ Command.Page 4822 ShortMonth.Skip) × (commandOf 2 (Word.Number 4822) Word.Last Word.Other ≡ Command.Page 4822 ShortMonth.Last) × (commandOf 2 (Word.Number 4822) (Word.Number 7) Word.Other ≡ Command.Export 4822 7 ShortMonth.Skip) × (commandOf 3 (Word.Number 4822) (Word.Number 7) Word.Last ≡ Command.Export 4822 7 ShortMonth.Last)
-unfolding commandOf oneWord twoWords afterDay threeWords withNumber withChoice ifEq
+    (commandOf 2 (Word.Number 4822) Word.Skip Word.Other ≡ Command.Page 4822 ShortMonth.Skip) × (commandOf 2 (Word.Number 4822) Word.Last Word.Other ≡ Command.Page 4822 ShortMonth.Last) × (commandOf 3 (Word.Number 4822) (Word.Number 7) Word.Skip ≡ Command.Export 4822 7 ShortMonth.Skip) × (commandOf 3 (Word.Number 4822) (Word.Number 7) Word.Last ≡ Command.Export 4822 7 ShortMonth.Last)
+unfolding commandOf pageWords exportWords withNumber withChoice ifEq
 commands = (refl, refl, refl, refl)
 
--- nothing, a word alone, a word before its number, three numbers, four words
+-- R-3, without the word: a day; a first day and a count; three numbers
+pub numbers-alone :
+    (commandOf 1 (Word.Number 4822) Word.Other Word.Other ≡ Command.Unknown) × (commandOf 2 (Word.Number 4822) (Word.Number 7) Word.Other ≡ Command.Unknown) × (commandOf 3 (Word.Number 1) (Word.Number 2) (Word.Number 3) ≡ Command.Unknown)
+unfolding commandOf pageWords exportWords withNumber withChoice ifEq
+numbers-alone = (refl, refl, refl)
+
+-- nothing, the word alone, the word before its number, four words
 pub others :
-    (commandOf 0 Word.Other Word.Other Word.Other ≡ Command.Unknown) × (commandOf 1 Word.Skip Word.Other Word.Other ≡ Command.Unknown) × (commandOf 2 Word.Skip (Word.Number 4822) Word.Other ≡ Command.Unknown) × (commandOf 3 (Word.Number 1) (Word.Number 2) (Word.Number 3) ≡ Command.Unknown) × (commandOf 4 (Word.Number 1) (Word.Number 2) Word.Skip ≡ Command.Unknown)
-unfolding commandOf oneWord twoWords afterDay threeWords withNumber withChoice ifEq
-others = (refl, refl, refl, refl, refl)
+    (commandOf 0 Word.Other Word.Other Word.Other ≡ Command.Unknown) × (commandOf 1 Word.Skip Word.Other Word.Other ≡ Command.Unknown) × (commandOf 2 Word.Skip (Word.Number 4822) Word.Other ≡ Command.Unknown) × (commandOf 4 (Word.Number 1) (Word.Number 2) Word.Skip ≡ Command.Unknown)
+unfolding commandOf pageWords exportWords withNumber withChoice ifEq
+others = (refl, refl, refl, refl)
 
 -- "11 0"
 pub refused : refusalText (refusal outOfRange) ≡ 0x31 ∷ 0x31 ∷ 0x20 ∷ 0x30 ∷ 0x0A ∷ []

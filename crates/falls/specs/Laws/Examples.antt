@@ -1,4 +1,4 @@
--- Slips that look right, document 01 and the readings: what the rules say of single days.
+-- Slips that look right, document 01 and the readings: what the rules say of single days. And what request R-3 expects of one.
 -- Assumes nothing.
 use Prim.Native.Nat.{ℕ}
 use mathlib.Core.Path.{_≡_, refl}
@@ -9,7 +9,7 @@ use Rattle.days.specs.declared.types.Date.{Date}
 use Rattle.days.specs.declared.types.DayFacts.{DayFacts}
 use Rattle.records.specs.declared.types.Repeat.{Repeat}
 use Rattle.records.specs.declared.types.Record.{Record}
-use Rattle.falls.specs.Falls.{inSpan, byPositionFalls, onMissingDay, onDay, byDateFalls, falls}
+use Rattle.falls.specs.Falls.{defaultChoice, inSpan, byPositionFalls, onMissingDay, onDay, byDateFalls, falls}
 use Rattle.falls.specs.declared.types.ShortMonth.{ShortMonth}
 
 abbrev on : ℕ → ℕ → ℕ → Date
@@ -42,3 +42,8 @@ on31 d = Record.MonthlyByDate (record { day = 31; repeat = until d })
 pub short-month : (falls ShortMonth.Skip april30 (on31 (on 2099 12 31)) ≡ false) × (falls ShortMonth.Last april30 (on31 (on 2099 12 31)) ≡ true) × (falls ShortMonth.Last april30 (on31 (on 1993 4 30)) ≡ true) × (falls ShortMonth.Last april30 (on31 (on 1993 4 29)) ≡ false)
 unfolding falls byDateFalls onDay onMissingDay inSpan before ifLt ifEq ifB
 short-month = (refl, refl, refl, refl)
+
+-- R-3: "Reporters expect the sitting on the 31st to show on the 30th of April."
+pub default-shows : falls defaultChoice april30 (on31 (on 2099 12 31)) ≡ true
+unfolding defaultChoice falls byDateFalls onDay onMissingDay inSpan before ifLt ifEq ifB
+default-shows = refl

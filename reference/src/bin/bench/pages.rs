@@ -1,4 +1,4 @@
-//! Day pages and the next occurrence, with the choice skip.
+//! Day pages and the next occurrence, with the choice skip; and the choice of a caller who names none.
 
 use super::{again, hidden, kept, row, Cells, Row, Run};
 use apptbook::raw::pages as proved;
@@ -6,7 +6,7 @@ use reference::book::{self, LONGEST};
 use reference::books::{book_near, small, Field, File};
 use reference::days::LAST_DAY;
 use reference::occurrences::soonest;
-use reference::pages::ShortMonth::Skip;
+use reference::pages::ShortMonth::{Last, Skip};
 use reference::pages::{self as plain, Search};
 use reference::printed;
 use reference::refusal::Refusal;
@@ -146,8 +146,16 @@ fn jumping((file, record, from): Asked) -> Result<Search, Refusal> {
     Ok(Search { day, looked: u32::from(day.unwrap_or(LAST_DAY) - from + 1) })
 }
 
+fn default_choice() -> Row {
+    row("default_last", "", 10_000, || {
+        let by_plain = hidden(|()| plain::DEFAULT == Last);
+        Cells { runs: [again((), |()| proved::default_last()), again((), by_plain), None], size: None }
+    })
+}
+
 pub fn rows() -> Vec<Row> {
     vec![
+        default_choice(),
         falling("12 records", small_book),
         falling("full, all kinds", full_book),
         searching("weekly and ended", ended, 1),

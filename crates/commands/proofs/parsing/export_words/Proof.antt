@@ -1,23 +1,23 @@
--- `three_words` meets its contract: each arm by its own equation.
+-- `export_words` meets its contract: each arm by its own equation.
 -- Assumes nothing.
-use Rattle.commands.specs.Commands.{withNumber, withChoice, threeWords}
+use Rattle.commands.specs.Commands.{withNumber, withChoice, exportWords}
 use Rattle.commands.proofs.NoNumber.{no-number}
 use borrow.Author.Needs.{needs}
-use Rattle.commands.proofs.parsing.three_words.Statement.{statement}
-use Rattle.commands.proofs.parsing.three_words.Tie as tie
+use Rattle.commands.proofs.parsing.export_words.Statement.{statement}
+use Rattle.commands.proofs.parsing.export_words.Tie as tie
 
 enum-known-a : tie.Need-enum-known-a
 enum-known-a c = search needs
 
 returns : tie.Need-returns
-unfolding threeWords
+unfolding exportWords
 returns c = no-number _ _ (c .match .keys2)
 
 enum-known-b : tie.Need-enum-known-b
 enum-known-b c = search needs
 
 returns-2 : tie.Need-returns-2
-unfolding threeWords withNumber withChoice
+unfolding exportWords withNumber withChoice
 returns-2 c = rw (c .before .before .a .given .1) (no-number (c .before .before .before .before .args .b) _ (c .match2 .keys2))
 
 enum-told : tie.Need-enum-told
@@ -33,23 +33,23 @@ enum-told-4 : tie.Need-enum-told-4
 enum-told-4 c = search needs
 
 returns-3 : tie.Need-returns-3
-unfolding threeWords withNumber withChoice
+unfolding exportWords withNumber withChoice
 returns-3 c = rw (c .before .before .before .before .before .before .a .given .1, c .before .before .before .b .given .1, c .enum-told .given .1)
 
 returns-4 : tie.Need-returns-4
-unfolding threeWords withNumber withChoice
+unfolding exportWords withNumber withChoice
 returns-4 c = rw (c .before .before .before .before .before .before .a .given .1, c .before .before .before .b .given .1, c .enum-told2 .given .1)
 
 returns-5 : tie.Need-returns-5
-unfolding threeWords withNumber withChoice
+unfolding exportWords withNumber withChoice
 returns-5 c = rw (c .before .before .before .before .before .before .a .given .1, c .before .before .before .b .given .1, c .enum-told3 .given .1)
 
 returns-6 : tie.Need-returns-6
-unfolding threeWords withNumber withChoice
+unfolding exportWords withNumber withChoice
 returns-6 c = rw (c .before .before .before .before .before .before .a .given .1, c .before .before .before .b .given .1, c .enum-told4 .given .1)
 
-pub three-words-spec : {M : Type 1} → statement M
-three-words-spec =
+pub export-words-spec : {M : Type 1} → statement M
+export-words-spec =
     tie.close
     (tie.spec
     enum-known-a
