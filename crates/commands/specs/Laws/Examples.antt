@@ -1,6 +1,7 @@
 -- Command lines and answers of the project's own size, as the definitions compute them.
 -- Assumes nothing.
 use mathlib.Core.Path.{_≡_, refl}
+use mathlib.Core.Bool.{true, false}
 use mathlib.Core.List.{[], _∷_, _++_}
 use Rattle.prelude.specs.Choice.{ifLt, ifEq, ifB}
 use Rattle.prelude.specs.Refusals.{outOfRange, refusal}
@@ -13,6 +14,7 @@ use Rattle.export.specs.Laws.Examples.{case-file, case-answers}
 use Rattle.commands.specs.Words.{spelled, wordOf}
 use Rattle.commands.specs.Commands.{withNumber, withChoice, pageWords, exportWords, commandOf}
 use Rattle.commands.specs.Responses.{refusalText, pageResponse, exportText, exportResponse, response}
+use Rattle.commands.specs.WithoutWord.{namesChoice, endsInChoice, lineCommand}
 use Rattle.commands.specs.declared.types.Word.{Word}
 use Rattle.commands.specs.declared.types.Command.{Command}
 use Rattle.calendar.specs.Laws.Examples as calendar
@@ -25,21 +27,27 @@ words = (refl, refl, refl, refl, refl, refl)
 
 -- a day and the word; a first day, a count and the word
 pub commands :
-    (commandOf 2 (Word.Number 4822) Word.Skip Word.Other ≡ Command.Page 4822 ShortMonth.Skip) × (commandOf 2 (Word.Number 4822) Word.Last Word.Other ≡ Command.Page 4822 ShortMonth.Last) × (commandOf 3 (Word.Number 4822) (Word.Number 7) Word.Skip ≡ Command.Export 4822 7 ShortMonth.Skip) × (commandOf 3 (Word.Number 4822) (Word.Number 7) Word.Last ≡ Command.Export 4822 7 ShortMonth.Last)
-unfolding commandOf pageWords exportWords withNumber withChoice ifEq
+    (lineCommand (Word.Number 4822 ∷ Word.Skip ∷ []) ≡ Command.Page 4822 ShortMonth.Skip) × (lineCommand (Word.Number 4822 ∷ Word.Last ∷ []) ≡ Command.Page 4822 ShortMonth.Last) × (lineCommand (Word.Number 4822 ∷ Word.Number 7 ∷ Word.Skip ∷ []) ≡ Command.Export 4822 7 ShortMonth.Skip) × (lineCommand (Word.Number 4822 ∷ Word.Number 7 ∷ Word.Last ∷ []) ≡ Command.Export 4822 7 ShortMonth.Last)
+unfolding lineCommand commandOf pageWords exportWords withNumber withChoice ifEq
 commands = (refl, refl, refl, refl)
 
 -- R-3, without the word: a day; a first day and a count; three numbers
 pub numbers-alone :
-    (commandOf 1 (Word.Number 4822) Word.Other Word.Other ≡ Command.Unknown) × (commandOf 2 (Word.Number 4822) (Word.Number 7) Word.Other ≡ Command.Unknown) × (commandOf 3 (Word.Number 1) (Word.Number 2) (Word.Number 3) ≡ Command.Unknown)
-unfolding commandOf pageWords exportWords withNumber withChoice ifEq
+    (lineCommand (Word.Number 4822 ∷ []) ≡ Command.Unknown) × (lineCommand (Word.Number 4822 ∷ Word.Number 7 ∷ []) ≡ Command.Unknown) × (lineCommand (Word.Number 1 ∷ Word.Number 2 ∷ Word.Number 3 ∷ []) ≡ Command.Unknown)
+unfolding lineCommand commandOf pageWords exportWords withNumber withChoice ifEq
 numbers-alone = (refl, refl, refl)
 
 -- nothing, the word alone, the word before its number, four words
 pub others :
-    (commandOf 0 Word.Other Word.Other Word.Other ≡ Command.Unknown) × (commandOf 1 Word.Skip Word.Other Word.Other ≡ Command.Unknown) × (commandOf 2 Word.Skip (Word.Number 4822) Word.Other ≡ Command.Unknown) × (commandOf 4 (Word.Number 1) (Word.Number 2) Word.Skip ≡ Command.Unknown)
-unfolding commandOf pageWords exportWords withNumber withChoice ifEq
+    (lineCommand [] ≡ Command.Unknown) × (lineCommand (Word.Skip ∷ []) ≡ Command.Unknown) × (lineCommand (Word.Skip ∷ Word.Number 4822 ∷ []) ≡ Command.Unknown) × (lineCommand (Word.Number 1 ∷ Word.Number 2 ∷ Word.Number 3 ∷ Word.Skip ∷ []) ≡ Command.Unknown)
+unfolding lineCommand commandOf pageWords exportWords withNumber withChoice ifEq
 others = (refl, refl, refl, refl)
+
+-- the word is there only as the last one
+pub word-at-the-end :
+    (endsInChoice (Word.Number 4822 ∷ Word.Last ∷ []) ≡ true) × (endsInChoice (Word.Number 4822 ∷ Word.Number 7 ∷ Word.Skip ∷ []) ≡ true) × (endsInChoice (Word.Last ∷ Word.Number 4822 ∷ []) ≡ false) × (endsInChoice (Word.Number 4822 ∷ []) ≡ false) × (endsInChoice (Word.Number 4822 ∷ Word.Other ∷ []) ≡ false) × (endsInChoice [] ≡ false)
+unfolding endsInChoice namesChoice
+word-at-the-end = (refl, refl, refl, refl, refl, refl)
 
 -- "11 0"
 pub refused : refusalText (refusal outOfRange) ≡ 0x31 ∷ 0x31 ∷ 0x20 ∷ 0x30 ∷ 0x0A ∷ []
