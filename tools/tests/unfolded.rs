@@ -3,11 +3,13 @@
 use tools::files::{read, top};
 use tools::unfolded::{unfolding, unfolds};
 
-/// Request R-3: that the choice of a caller who names none is last.
+/// Request R-3: that the choice of a caller who names none is last. The proof of `default_choice` says no more than the
+/// definition's name, and the example is not public.
 #[test]
 fn the_default_choice_is_known_in_falls_alone() {
-    let definition = read(&top().join("crates/falls/specs/Falls.antt")).expect("the definition");
-    assert!(definition.contains("\nunfoldable pub defaultChoice : ShortMonth\n"), "it is shut");
+    let falls = |file: &str| read(&top().join("crates/falls/specs").join(file)).expect("a file of falls");
+    assert!(falls("Falls.antt").contains("\nunfoldable pub defaultChoice : ShortMonth\n"), "it is shut");
+    assert!(falls("Laws/Examples.antt").contains("\ndefault-shows : falls defaultChoice "), "not public");
     assert_eq!(
         unfolding(&top(), "defaultChoice").expect("files"),
         ["falls/proofs/choice/default_choice/Proof.antt", "falls/specs/Laws/Examples.antt"]

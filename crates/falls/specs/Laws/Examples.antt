@@ -43,7 +43,7 @@ pub short-month : (falls ShortMonth.Skip april30 (on31 (on 2099 12 31)) ≡ fals
 unfolding falls byDateFalls onDay onMissingDay inSpan before ifLt ifEq ifB
 short-month = (refl, refl, refl, refl)
 
--- R-3: "Reporters expect the sitting on the 31st to show on the 30th of April."
-pub default-shows : falls defaultChoice april30 (on31 (on 2099 12 31)) ≡ true
+-- R-3: "Reporters expect the sitting on the 31st to show on the 30th of April." Not public: nothing else is to know the default.
+default-shows : falls defaultChoice april30 (on31 (on 2099 12 31)) ≡ true
 unfolding defaultChoice falls byDateFalls onDay onMissingDay inSpan before ifLt ifEq ifB
 default-shows = refl
