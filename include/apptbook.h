@@ -24,8 +24,9 @@
 /*
  * Of this header and its library: raised whenever a call is added or changed, so that a caller can compare it by #if.
  * 1: the first calls. 2: apptbook_check_chains. 3: apptbook_default_last: who has no wish gets last, where it was skip.
+ * 4: apptbook_falls_on and apptbook_page_line tell when a showing is moved, and printed pages mark it.
  */
-#define APPTBOOK_VERSION 3
+#define APPTBOOK_VERSION 4
 
 #ifdef __cplusplus
 extern "C" {
@@ -331,6 +332,10 @@ apptbook_writer apptbook_close(apptbook_writer state, uint8_t *buffer, size_t le
  * over as `last`: false (skip) shows the record on no day of that month, true (last) on the month's last day.
  * It plays no other part. Who has no wish hands over apptbook_default_last(), which is true.
  *
+ * A record that falls on a month's last day because its own day is missing there is moved. So only the last two
+ * kinds can be moved, and under skip nothing is. Pages, the search and the export show what is moved as they
+ * show all else; page lines and printed pages mark it.
+ *
  * A page lists the records that fall on a day by start minute, and by their numbers where that is equal. Its
  * lines count from 0.
  *
@@ -339,10 +344,17 @@ apptbook_writer apptbook_close(apptbook_writer state, uint8_t *buffer, size_t le
  * APPTBOOK_NO_ROOM (12).
  */
 
+/* Whether a record falls on a day. */
+enum {
+    APPTBOOK_FALLS_NOT = 0,
+    APPTBOOK_FALLS_ON_ITS_DAY = 1,
+    APPTBOOK_FALLS_MOVED = 2 /* on the month's last day, since its own day is missing there */
+};
+
 typedef struct apptbook_falls_answer {
     uint32_t number;
     size_t place;
-    bool falls;
+    uint16_t falls; /* APPTBOOK_FALLS_NOT to APPTBOOK_FALLS_MOVED */
 } apptbook_falls_answer;
 
 typedef struct apptbook_occurrence_answer {
@@ -368,12 +380,16 @@ typedef struct apptbook_page_line_answer {
     uint16_t start;     /* start minute */
     uint16_t end;       /* end minute */
     bool alarm;         /* alarm on */
+    bool moved;         /* the record is moved to this day */
 } apptbook_page_line_answer;
 
 /* The choice of a caller who names none, to be handed over as `last`: true, that is last. */
 bool apptbook_default_last(void);
 
-/* Whether a record falls on a day. Refused with 11, then with 10 when there is no such record. */
+/*
+ * Whether a record falls on a day: not, on its own day, or moved. All but APPTBOOK_FALLS_NOT (0) are showings.
+ * Refused with 11, then with 10 when there is no such record.
+ */
 apptbook_falls_answer apptbook_falls_on(const uint8_t *file, size_t len, size_t record, uint16_t day,
                                         bool last);
 
@@ -398,12 +414,14 @@ apptbook_count_answer apptbook_page_length(const uint8_t *file, size_t len, uint
 /*
  * Prints the page of a day into the lent buffer; count is the number of bytes written:
  *
- *   1993-03-15 Mon 1
- *   10:00-11:00 Dep
+ *   1993-04-30 Fri 2
+ *   10:00-11:00* List
+ *   14:00-15:30 Dep
  *
- * first the date, the weekday (Sun to Sat) and the number of lines, then for each line start, end and text.
- * Each ends by the byte 0Ah, also the last one. The text's bytes are printed as they are; an empty text
- * leaves the space before it. No zero byte is added. The buffer may not lie in the file.
+ * first the date, the weekday (Sun to Sat) and the number of lines, then for each line start, end and text,
+ * with an asterisk straight after the end where the line is moved. Each ends by the byte 0Ah, also the last one.
+ * The text's bytes are printed as they are; an empty text leaves the space before it. No zero byte is added.
+ * The buffer may not lie in the file. No page has more than 65,535 bytes.
  *
  * Refused with 11, then with 12 when the buffer is shorter than the page; no byte is then changed. Otherwise
  * only the bytes that are written are changed.

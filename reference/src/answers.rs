@@ -9,7 +9,7 @@ mod writer;
 use crate::book::{Book, Settings};
 use crate::calendar::{Appointment, Descriptor};
 use crate::days::{Date, Facts};
-use crate::pages::{Line, Search};
+use crate::pages::{Falls, Line, Search};
 use crate::refusal::Refusal;
 use apptbook::raw::book::{BookAnswer, LineAnswer, LinesAnswer};
 use apptbook::raw::calendar::{AppointmentAnswer, DescriptorAnswer};
@@ -61,7 +61,13 @@ answer_of_result!(BookAnswer, Book, book => {
 answer_of_result!(LinesAnswer, usize, lines => { lines: lines });
 answer_of_result!(LineAnswer, Range<usize>, line => { at: line.start, length: line.len() });
 
-answer_of_result!(FallsAnswer, bool, falls => { falls: falls });
+answer_of_result!(FallsAnswer, Falls, falls => {
+    falls: match falls {
+        Falls::Not => 0,
+        Falls::OnItsDay => 1,
+        Falls::Moved => 2,
+    },
+});
 answer_of_result!(CountAnswer, usize, count => { count: count });
 answer_of_result!(PageLineAnswer, Line, line => {
     record: line.record,
@@ -70,6 +76,7 @@ answer_of_result!(PageLineAnswer, Line, line => {
     start: line.start,
     end: line.end,
     alarm: line.alarm,
+    moved: line.moved,
 });
 answer_of_result!(OccurrenceAnswer, Search, search => {
     looked: search.looked,

@@ -111,7 +111,7 @@ fn day_by_day(items: &[Item], first: u16, count: u16, choice: ShortMonth) -> Vec
     let mut facts = day_facts(first);
     for day in first..first + count {
         let today = facts.expect("a day of the span");
-        let falling = items.iter().filter(|item| falls(&item.entry, &today, choice));
+        let falling = items.iter().filter(|item| falls(&item.entry, &today, choice).is_shown());
         days.extend(Day::new(day, falling.collect()));
         facts = next_day(today);
     }

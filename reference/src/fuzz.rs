@@ -23,6 +23,8 @@ pub struct Tally {
     pub counts: BTreeMap<&'static str, BTreeMap<u32, u64>>,
     /// Bytes of files that were lent.
     pub bytes: u64,
+    /// Records that were asked for, and page lines, which were moved.
+    pub moved: [u64; 2],
 }
 
 impl Tally {

@@ -6,15 +6,23 @@ use crate::days::{Date, FIRST_YEAR, LAST_DAY, LAST_YEAR};
 use crate::pages::ShortMonth;
 use crate::records::{Entry, Rule};
 
+/// A day on which a record falls.
+#[derive(Clone, Copy, Debug, PartialEq, Eq)]
+pub struct Showing {
+    pub day: u16,
+    /// Its own day is another one.
+    pub moved: bool,
+}
+
 /// All days on which it falls, rising.
-pub fn occurrences(entry: &Entry, choice: ShortMonth) -> Vec<u16> {
+pub fn occurrences(entry: &Entry, choice: ShortMonth) -> Vec<Showing> {
     match *entry {
-        Entry::Dated { date, .. } => vec![day(date)],
+        Entry::Dated { date, .. } => vec![own(day(date))],
         Entry::Repeated { rule, first, last, .. } => {
             let (first, last) = (day(first), day(last));
-            let mut days = days_of_rule(rule, first, choice);
-            days.retain(|day| (first..=last).contains(day));
-            days
+            let mut showings = showings_of_rule(rule, first, choice);
+            showings.retain(|showing| (first..=last).contains(&showing.day));
+            showings
         }
         Entry::ToDo { .. } => vec![],
     }
@@ -33,14 +41,14 @@ pub fn soonest(entry: &Entry, from: u16, choice: ShortMonth) -> Option<u16> {
             let found = match rule {
                 Rule::Weekly { weekday } => Some(from + (weekday + 7 - weekday_of(from)) % 7),
                 Rule::MonthlyByDate { day } => {
-                    months.filter_map(|(year, month)| made(year, month, day, choice)).find(later)
+                    months.filter_map(|(year, month)| Some(made(year, month, day, choice)?.day)).find(later)
                 }
                 Rule::MonthlyByPosition { week, weekday } => {
                     months.filter_map(|(year, month)| nth_weekday(year, month, week, weekday)).find(later)
                 }
-                Rule::Yearly { month, day } => {
-                    (date.year..=LAST_YEAR).filter_map(|year| made(year, month, day, choice)).find(later)
-                }
+                Rule::Yearly { month, day } => (date.year..=LAST_YEAR)
+                    .filter_map(|year| Some(made(year, month, day, choice)?.day))
+                    .find(later),
             };
             found.filter(|&found| found <= day(last))
         }
@@ -49,18 +57,18 @@ pub fn soonest(entry: &Entry, from: u16, choice: ShortMonth) -> Option<u16> {
 }
 
 /// From `first` on or from before it.
-fn days_of_rule(rule: Rule, first: u16, choice: ShortMonth) -> Vec<u16> {
+fn showings_of_rule(rule: Rule, first: u16, choice: ShortMonth) -> Vec<Showing> {
     let months = || (FIRST_YEAR..=LAST_YEAR).flat_map(|year| (1..=12).map(move |month| (year, month)));
     match rule {
         Rule::Weekly { weekday } => {
             let wait = (weekday + 7 - weekday_of(first)) % 7;
-            (first + wait..=LAST_DAY).step_by(7).collect()
+            (first + wait..=LAST_DAY).step_by(7).map(own).collect()
         }
         Rule::MonthlyByDate { day } => {
             months().filter_map(|(year, month)| made(year, month, day, choice)).collect()
         }
         Rule::MonthlyByPosition { week, weekday } => {
-            months().filter_map(|(year, month)| nth_weekday(year, month, week, weekday)).collect()
+            months().filter_map(|(year, month)| nth_weekday(year, month, week, weekday)).map(own).collect()
         }
         Rule::Yearly { month, day } => {
             (FIRST_YEAR..=LAST_YEAR).filter_map(|year| made(year, month, day, choice)).collect()
@@ -77,13 +85,17 @@ fn weekday_of(day: u16) -> u16 {
     (day % 7 + 3 - 1) % 7 + 1
 }
 
+fn own(day: u16) -> Showing {
+    Showing { day, moved: false }
+}
+
 /// The day of that date; where there is none, the last before it or nothing.
-fn made(year: u16, month: u16, wanted: u16, choice: ShortMonth) -> Option<u16> {
+fn made(year: u16, month: u16, wanted: u16, choice: ShortMonth) -> Option<Showing> {
     let real = |day| civil::day_of_date(Date { year, month, day }).ok();
-    match choice {
-        ShortMonth::Skip => real(wanted),
-        ShortMonth::Last => (1..=wanted).rev().find_map(real),
-    }
+    real(wanted).map(own).or_else(|| match choice {
+        ShortMonth::Skip => None,
+        ShortMonth::Last => (1..wanted).rev().find_map(real).map(|day| Showing { day, moved: true }),
+    })
 }
 
 /// The n-th such weekday of a month, where it has so many.

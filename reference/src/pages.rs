@@ -1,4 +1,5 @@
-//! Document 01, "When a record falls on a day": day pages and the search for the next occurrence.
+//! Document 01, "When a record falls on a day": day pages and the search for the next occurrence. Document 02, R-7: a
+//! showing on its own day, or moved.
 //!
 //! Every call judges the whole book first, then the day (11), then the number (10).
 
@@ -14,6 +15,24 @@ pub const CHOICES: [ShortMonth; 2] = [ShortMonth::Skip, ShortMonth::Last];
 /// That of a caller who names none (document 02, R-3).
 pub const DEFAULT: ShortMonth = ShortMonth::Last;
 
+/// Whether a record falls on a day.
+#[derive(Clone, Copy, Debug, PartialEq, Eq)]
+pub enum Falls {
+    Not,
+    OnItsDay,
+    Moved,
+}
+
+impl Falls {
+    /// "the export, the search and the differences treat moved as a showing"
+    pub fn is_shown(self) -> bool {
+        match self {
+            Falls::Not => false,
+            Falls::OnItsDay | Falls::Moved => true,
+        }
+    }
+}
+
 #[derive(Clone, Debug, PartialEq, Eq)]
 pub struct Line {
     /// The record's number, which is its place in the book.
@@ -21,6 +40,7 @@ pub struct Line {
     pub start: u16,
     pub end: u16,
     pub alarm: bool,
+    pub moved: bool,
     /// A stretch of the file.
     pub text: Range<usize>,
 }
@@ -33,44 +53,55 @@ pub struct Search {
     pub looked: u32,
 }
 
-pub fn falls(entry: &Entry, day: &Facts, choice: ShortMonth) -> bool {
+pub fn falls(entry: &Entry, day: &Facts, choice: ShortMonth) -> Falls {
     match *entry {
-        Entry::Dated { date, .. } => date == day.date,
-        Entry::Repeated { rule, first, last, .. } => {
-            first <= day.date && day.date <= last && follows(rule, day, choice)
+        Entry::Dated { date, .. } => own_day(date == day.date),
+        Entry::Repeated { rule, first, last, .. } if first <= day.date && day.date <= last => {
+            follows(rule, day, choice)
         }
-        Entry::ToDo { .. } => false,
+        Entry::Repeated { .. } | Entry::ToDo { .. } => Falls::Not,
     }
 }
 
-fn follows(rule: Rule, day: &Facts, choice: ShortMonth) -> bool {
+fn own_day(fits: bool) -> Falls {
+    if fits {
+        Falls::OnItsDay
+    } else {
+        Falls::Not
+    }
+}
+
+fn follows(rule: Rule, day: &Facts, choice: ShortMonth) -> Falls {
     match rule {
-        Rule::Weekly { weekday } => weekday == day.weekday,
+        Rule::Weekly { weekday } => own_day(weekday == day.weekday),
         Rule::MonthlyByDate { day: wanted } => shows(wanted, day, choice),
         Rule::MonthlyByPosition { week, weekday } => {
-            weekday == day.weekday && (day.date.day - 1) / 7 + 1 == week
+            own_day(weekday == day.weekday && (day.date.day - 1) / 7 + 1 == week)
         }
-        Rule::Yearly { month, day: wanted } => month == day.date.month && shows(wanted, day, choice),
+        Rule::Yearly { month, day: wanted } if month == day.date.month => shows(wanted, day, choice),
+        Rule::Yearly { .. } => Falls::Not,
     }
 }
 
 /// Whether a record for this day of the month shows on this day.
-fn shows(wanted: u16, day: &Facts, choice: ShortMonth) -> bool {
+fn shows(wanted: u16, day: &Facts, choice: ShortMonth) -> Falls {
     if wanted <= day.month_length {
-        wanted == day.date.day
+        own_day(wanted == day.date.day)
+    } else if choice == ShortMonth::Last && day.date.day == day.month_length {
+        Falls::Moved
     } else {
-        choice == ShortMonth::Last && day.date.day == day.month_length
+        Falls::Not
     }
 }
 
-pub fn falls_on(file: &[u8], record: usize, day: u16, choice: ShortMonth) -> Result<bool, Refusal> {
+pub fn falls_on(file: &[u8], record: usize, day: u16, choice: ShortMonth) -> Result<Falls, Refusal> {
     let (record, facts) = asked(file, record, day)?;
     Ok(falls(&record.entry, &facts, choice))
 }
 
 pub fn next_occurrence(file: &[u8], record: usize, day: u16, choice: ShortMonth) -> Result<Search, Refusal> {
     let (record, mut facts) = asked(file, record, day)?;
-    while !falls(&record.entry, &facts, choice) {
+    while !falls(&record.entry, &facts, choice).is_shown() {
         match next_day(facts) {
             Ok(next) => facts = next,
             Err(_) => return Ok(Search { day: None, looked: u32::from(LAST_DAY + 1 - day) }),
@@ -127,18 +158,19 @@ pub(crate) fn each_line(
     let facts = day_facts(day);
     let mut number = 0;
     book::read(file, |record| {
-        if facts.is_ok_and(|facts| falls(&record.entry, &facts, choice)) {
-            show(line(number, record));
+        let falls = facts.map_or(Falls::Not, |facts| falls(&record.entry, &facts, choice));
+        if falls.is_shown() {
+            show(line(number, record, falls == Falls::Moved));
         }
         number += 1;
     })?;
     facts
 }
 
-fn line(record: usize, Record { flag, entry, text, .. }: Record) -> Line {
+fn line(record: usize, Record { flag, entry, text, .. }: Record, moved: bool) -> Line {
     let (Entry::Dated { times, .. } | Entry::Repeated { times, .. }) = entry else {
         unreachable!("a to-do falls on no day")
     };
     let Times { start, end, .. } = times;
-    Line { record, start, end, alarm: flag, text }
+    Line { record, start, end, alarm: flag, moved, text }
 }

@@ -1,4 +1,5 @@
-//! Document 01: a printed page is date, weekday and number of lines, then each start, end and text.
+//! Document 01: a printed page is date, weekday and number of lines, then each start, end and text. Document 02, R-7: an
+//! asterisk straight after the end of a moved line.
 
 use crate::days::Facts;
 use crate::pages::{each_line, facts_and_page, Line, ShortMonth};
@@ -14,6 +15,9 @@ pub fn printed_page(file: &[u8], day: u16, choice: ShortMonth) -> Result<Vec<u8>
         put_minute(&mut bytes, line.start);
         bytes.push(b'-');
         put_minute(&mut bytes, line.end);
+        if line.moved {
+            bytes.push(b'*');
+        }
         bytes.push(b' ');
         bytes.extend_from_slice(&file[line.text]);
         bytes.push(b'\n');
@@ -44,9 +48,9 @@ fn head(facts: &Facts, lines: usize) -> Vec<u8> {
     format!("{:04}-{:02}-{:02} {weekday} {lines}\n", date.year, date.month, date.day).into_bytes()
 }
 
-/// Two times of five bytes, a hyphen, a space, the text and the end of the line.
+/// Two times of five bytes, a hyphen, an asterisk or none, a space, the text and the end of the line.
 fn line_length(line: &Line) -> usize {
-    5 + 1 + 5 + 1 + line.text.len() + 1
+    5 + 1 + 5 + usize::from(line.moved) + 1 + line.text.len() + 1
 }
 
 fn put_minute(bytes: &mut Vec<u8>, minute: u16) {

@@ -1,11 +1,12 @@
-//! Books written out by hand, byte for byte, with what a reader is to give; Calendar files, day chains, pages, command
-//! lines and bytes after the end in the files beside.
+//! Books written out by hand, byte for byte, with what a reader is to give; Calendar files, day chains, pages, moved
+//! showings, command lines and bytes after the end in the files beside.
 
 pub mod calendars;
 pub mod chains;
 pub mod commands;
 pub mod exports;
 pub mod fillers;
+pub mod moved;
 pub mod pages;
 
 use crate::days::Date;

@@ -56,12 +56,13 @@ fn hostile_calls() {
     for _ in 0..3_000 {
         fuzz.round(rng.u64());
     }
-    println!("{}", fuzz.tally);
+    println!("{}moved: {:?}", fuzz.tally, fuzz.tally.moved);
     for (call, numbers) in CALLS {
         let seen = &fuzz.tally.counts[call];
         assert!(numbers.iter().all(|number| seen.contains_key(number)), "{call}: {seen:?}");
     }
     assert_eq!(fuzz.tally.counts.len(), CALLS.len());
+    assert!(fuzz.tally.moved.iter().all(|&count| count >= 5), "moved: {:?}", fuzz.tally.moved);
 }
 
 /// Books end with fillers in all ways: right ones, a wrong byte among them, too many, too many and a wrong one.

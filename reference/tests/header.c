@@ -3,7 +3,7 @@
 
 #include <stdio.h>
 
-#if APPTBOOK_VERSION < 3
+#if APPTBOOK_VERSION < 4
 #error "a version that the preprocessor can compare"
 #endif
 

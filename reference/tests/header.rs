@@ -76,6 +76,7 @@ in_both!("header.c", expected());
 #[test]
 fn the_numbers_of_the_crate() {
     use apptbook::raw::book::*;
+    use apptbook::raw::pages::{FALLS_MOVED, FALLS_NOT, FALLS_ON_ITS_DAY};
     use apptbook::refusals::*;
     let refusals = [
         [0, BOOK_TOO_LONG, NOT_A_BOOK, BAD_SETTINGS, CUT_SHORT, UNKNOWN_TYPE].as_slice(),
@@ -88,6 +89,8 @@ fn the_numbers_of_the_crate() {
     assert_eq!(format!("refusals {}\n", words.join(" ")), REFUSALS);
     let kinds = [DATED, WEEKLY, MONTHLY_BY_DATE, MONTHLY_BY_POSITION, YEARLY, TO_DO];
     assert!(book::CALLS.starts_with(&format!("kinds {}\n", kinds.map(|kind| kind.to_string()).join(" "))));
+    let falls = format!("falls {FALLS_NOT} {FALLS_ON_ITS_DAY} {FALLS_MOVED}\n");
+    assert!(pages::CALLS.starts_with(&falls));
     let flags = format!("flags {} {}\n", apptbook::FLAG_ALARM, apptbook::FLAG_SPECIAL_TIME);
     assert!(calendar::CALLS.starts_with(&flags));
 }
@@ -155,12 +158,14 @@ mod pages {
         format!("sizes {}\n{CALLS}", sizes.map(|size| size.to_string()).join(" "))
     }
 
-    const CALLS: &str = "\
+    pub const CALLS: &str = "\
+falls 0 1 2
 default_last 1
 falls_on 0 0 1
+falls_on 0 0 1
 falls_on 0 0 0
-falls_on 0 0 1
-falls_on 0 0 1
+falls_on 0 0 2
+falls_on 0 0 2
 falls_on 10 0 0
 next_occurrence 0 0 61 4899 1
 next_occurrence 0 0 30 4868 1
@@ -168,8 +173,9 @@ next_occurrence 0 0 39007 0 0
 next_occurrence 11 0 0 0 0
 page_lines 0 0 1
 page_lines 4 49 0
-page_line 0 0 record 0 text 27 3 times 600 660 alarm 1 Dep
-page_line 10 0 record 0 text 0 0 times 0 0 alarm 0\u{20}
+page_line 0 0 record 0 text 27 3 times 600 660 alarm 1 moved 0 Dep
+page_line 10 0 record 0 text 0 0 times 0 0 alarm 0 moved 0\u{20}
+page_line 0 0 record 1 text 49 0 times 0 0 alarm 0 moved 1\u{20}
 page_length 0 0 30
 print_page 12 0 0
 untouched 1
@@ -177,6 +183,9 @@ print_page 0 0 30
 1993-03-31 Wed 1
 00:00-00:00\u{20}
 #
+page_length 0 0 31
+1993-04-30 Fri 1
+00:00-00:00*\u{20}
 ";
 
     in_both!("pages.c", expected());

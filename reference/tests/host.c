@@ -9,7 +9,8 @@
 #include <string.h>
 
 enum { MOST_RECORDS = 40, LONGEST_EXPORT = 2228224 };
-static const uint16_t DAYS[] = {4822, 4850, 59, 43829};
+/* Three of them are the last of their months. */
+static const uint16_t DAYS[] = {4822, 5172, 59, 43829};
 
 static uint64_t hash;
 
@@ -48,8 +49,8 @@ static void see_record(const uint8_t *file, size_t len, size_t i) {
         see_bytes(file + line.at, line.length);
     }
     for (int d = 0; d < 4; d++) {
-        see(apptbook_falls_on(file, len, i, DAYS[d], d == 0).falls);
-        see(apptbook_next_occurrence(file, len, i, DAYS[d], d == 0).looked);
+        see(apptbook_falls_on(file, len, i, DAYS[d], d > 0).falls);
+        see(apptbook_next_occurrence(file, len, i, DAYS[d], d > 0).looked);
     }
 }
 
@@ -58,6 +59,7 @@ static void see_page(const uint8_t *file, size_t len, uint16_t day, bool last) {
     for (size_t k = 0; k < lines && k < MOST_RECORDS; k++) {
         apptbook_page_line_answer line = apptbook_page_line(file, len, day, last, k);
         see(line.start);
+        see(line.moved);
         see_bytes(file + line.text_at, line.text_length);
     }
     size_t length = apptbook_page_length(file, len, day, last).count;

@@ -11,7 +11,7 @@ static const uint8_t file[] = {0xFF, 0xFF, 0x01, 0x00, 0x01, 0xE0, 0x01, 0x1E, 0
                                0x01, 0x00, 0x00, 0x5D, 0x0C, 0x1F, 0x00, 0x00, 0x00, 0x00, 0x32, 0x00, 0x00};
 
 static void print_falls(apptbook_falls_answer r) {
-    printf("falls_on %u %zu %d\n", (unsigned)r.number, r.place, r.falls);
+    printf("falls_on %u %zu %u\n", (unsigned)r.number, r.place, (unsigned)r.falls);
 }
 
 static void print_next(apptbook_occurrence_answer r) {
@@ -24,8 +24,8 @@ static void print_count(const char *name, apptbook_count_answer r) {
 }
 
 static void print_line(apptbook_page_line_answer r) {
-    printf("page_line %u %zu record %zu text %zu %zu times %u %u alarm %d %.*s\n", (unsigned)r.number,
-           r.place, r.record, r.text_at, r.text_length, (unsigned)r.start, (unsigned)r.end, r.alarm,
+    printf("page_line %u %zu record %zu text %zu %zu times %u %u alarm %d moved %d %.*s\n", (unsigned)r.number,
+           r.place, r.record, r.text_at, r.text_length, (unsigned)r.start, (unsigned)r.end, r.alarm, r.moved,
            (int)r.text_length, (const char *)file + r.text_at);
 }
 
@@ -35,8 +35,10 @@ int main(void) {
 
     printf("sizes %zu %zu %zu %zu\n", sizeof(apptbook_falls_answer), sizeof(apptbook_occurrence_answer),
            sizeof written, sizeof(apptbook_page_line_answer));
+    printf("falls %d %d %d\n", APPTBOOK_FALLS_NOT, APPTBOOK_FALLS_ON_ITS_DAY, APPTBOOK_FALLS_MOVED);
     printf("default_last %d\n", apptbook_default_last());
     print_falls(apptbook_falls_on(file, sizeof file, 0, 4822, false));
+    print_falls(apptbook_falls_on(file, sizeof file, 1, 4838, true));
     print_falls(apptbook_falls_on(file, sizeof file, 1, 4868, false));
     print_falls(apptbook_falls_on(file, sizeof file, 1, 4868, true));
     print_falls(apptbook_falls_on(file, sizeof file, 1, 4868, apptbook_default_last()));
@@ -49,6 +51,7 @@ int main(void) {
     print_count("page_lines", apptbook_page_lines(file, 49, 4822, false));
     print_line(apptbook_page_line(file, sizeof file, 4822, false, 0));
     print_line(apptbook_page_line(file, sizeof file, 4822, false, 1));
+    print_line(apptbook_page_line(file, sizeof file, 4868, true, 0));
     print_count("page_length", apptbook_page_length(file, sizeof file, 4838, false));
     memset(page, '#', sizeof page);
     print_count("print_page", apptbook_print_page(file, sizeof file, 4838, false, page, 29));
@@ -56,5 +59,8 @@ int main(void) {
     written = apptbook_print_page(file, sizeof file, 4838, false, page, sizeof page);
     print_count("print_page", written);
     printf("%.*s%c\n", (int)written.count, (const char *)page, page[written.count]);
+    print_count("page_length", apptbook_page_length(file, sizeof file, 4868, true));
+    written = apptbook_print_page(file, sizeof file, 4868, true, page, sizeof page);
+    printf("%.*s", (int)written.count, (const char *)page);
     return 0;
 }

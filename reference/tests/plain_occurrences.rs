@@ -3,9 +3,9 @@
 use reference::book;
 use reference::books::{book_near, edge_day, near, Draft};
 use reference::days::{day_facts, Date, Facts, LAST_DAY};
-use reference::occurrences::{occurrences, soonest};
+use reference::occurrences::{occurrences, soonest, Showing};
 use reference::pages::ShortMonth::{self, Last, Skip};
-use reference::pages::{self, Search, CHOICES};
+use reference::pages::{self, Falls, Search, CHOICES};
 use reference::records::{self, Entry, Rule, Times};
 use reference::rng::Rng;
 use reference::vectors::every_kind;
@@ -25,12 +25,18 @@ fn all_facts() -> Vec<Facts> {
     (0..=LAST_DAY).map(|day| day_facts(day).expect("a Calendar day")).collect()
 }
 
-/// Both ways agree on every day there is; gives the days.
-fn all_days(entry: &Entry, choice: ShortMonth, facts: &[Facts]) -> Vec<u16> {
-    let falling = facts.iter().filter(|facts| pages::falls(entry, facts, choice));
-    let days: Vec<u16> = falling.map(|facts| facts.calendar_day).collect();
-    assert_eq!(days, occurrences(entry, choice), "{entry:?} {choice:?}");
-    days
+/// Both ways agree on every day there is; gives the days, and those of them to which it is moved.
+fn all_days(entry: &Entry, choice: ShortMonth, facts: &[Facts]) -> [Vec<u16>; 2] {
+    let mut showings = vec![];
+    for facts in facts {
+        let falls = pages::falls(entry, facts, choice);
+        if falls != Falls::Not {
+            showings.push(Showing { day: facts.calendar_day, moved: falls == Falls::Moved });
+        }
+    }
+    assert_eq!(showings, occurrences(entry, choice), "{entry:?} {choice:?}");
+    let moved = showings.iter().filter(|showing| showing.moved).map(|showing| showing.day).collect();
+    [showings.iter().map(|showing| showing.day).collect(), moved]
 }
 
 /// Document 01, set P, as far as it is about records; its dates are in days.rs.
@@ -40,22 +46,22 @@ fn set_p() {
     let days = |entry, choice| all_days(&entry, choice, &facts);
     for choice in CHOICES {
         let second_tuesday = Rule::MonthlyByPosition { week: 2, weekday: 3 };
-        assert_eq!(days(in_month(second_tuesday, 1993, 3, 31), choice), [4_816]);
+        assert_eq!(days(in_month(second_tuesday, 1993, 3, 31), choice), [vec![4_816], vec![]]);
         let fifth_monday = Rule::MonthlyByPosition { week: 5, weekday: 2 };
-        assert_eq!(days(in_month(fifth_monday, 1993, 3, 31), choice), [4_836]);
+        assert_eq!(days(in_month(fifth_monday, 1993, 3, 31), choice), [vec![4_836], vec![]]);
     }
     let on_31 = in_month(Rule::MonthlyByDate { day: 31 }, 1993, 4, 30);
-    assert_eq!(days(on_31, Skip), []);
-    assert_eq!(days(on_31, Last), [4_868]);
+    assert_eq!(days(on_31, Skip), [[], []]);
+    assert_eq!(days(on_31, Last), [[4_868], [4_868]]);
     let leap_day = in_month(Rule::Yearly { month: 2, day: 29 }, 1993, 2, 28);
-    assert_eq!(days(leap_day, Skip), []);
-    assert_eq!(days(leap_day, Last), [4_807]);
+    assert_eq!(days(leap_day, Skip), [[], []]);
+    assert_eq!(days(leap_day, Last), [[4_807], [4_807]]);
     // The weekly record of every_kind: Tuesdays from 16 March 1993.
     let found = pages::next_occurrence(&every_kind(), 1, 4_822, Skip);
     assert_eq!(found, Ok(Search { day: Some(4_823), looked: 2 }));
 }
 
-/// Every rule there is, over all days.
+/// Every rule there is, over all days. What last shows and skip does not is moved, and nothing else is.
 #[test]
 fn every_rule() {
     let facts = all_facts();
@@ -65,13 +71,18 @@ fn every_rule() {
         (1..=5).flat_map(|week| (1..=7).map(move |weekday| Rule::MonthlyByPosition { week, weekday }));
     let yearly = facts[..366].iter().map(|day| Rule::Yearly { month: day.date.month, day: day.date.day });
     for rule in weekly.chain(monthly).chain(position).chain(yearly) {
-        let [skip, last] = CHOICES.map(|choice| all_days(&repeated(rule, FIRST, END), choice, &facts));
+        let [(skip, none), (last, moved)] = CHOICES.map(|choice| {
+            let [days, moved] = all_days(&repeated(rule, FIRST, END), choice, &facts);
+            (days, moved)
+        });
         match rule {
             Rule::MonthlyByDate { .. } => assert_eq!(last.len(), 1_440),
             Rule::Yearly { .. } => assert_eq!(last.len(), 120),
             _ => assert_eq!(skip, last),
         }
         assert!(skip.iter().all(|day| last.binary_search(day).is_ok()));
+        let added: Vec<u16> = last.into_iter().filter(|day| skip.binary_search(day).is_err()).collect();
+        assert_eq!((none, moved), (vec![], added), "{rule:?}");
     }
 }
 
@@ -90,16 +101,19 @@ fn random_entry(kind: u8, rng: &mut Rng) -> Entry {
 fn random_records() {
     let mut rng = Rng::for_test("random_records");
     let facts = all_facts();
-    let mut days = [0; 6];
+    let (mut days, mut moved) = ([0; 6], [0; 6]);
     for _ in 0..3_000 {
         let kind = rng.within(1..=6);
         let entry = random_entry(kind as u8, &mut rng);
         for choice in CHOICES {
-            days[kind - 1] += all_days(&entry, choice, &facts).len();
+            let [all, some] = all_days(&entry, choice, &facts);
+            days[kind - 1] += all.len();
+            moved[kind - 1] += some.len();
         }
     }
-    println!("days by kind: {days:?}");
+    println!("days by kind: {days:?}, moved: {moved:?}");
     assert!(days[..5].iter().all(|&days| days >= 500) && days[5] == 0);
+    assert!(moved[2] >= 500 && moved[4] >= 100);
 }
 
 #[test]
@@ -110,7 +124,8 @@ fn random_searches() {
         let file = book_near(edge_day(&mut rng), 4, &mut rng).bytes;
         for (number, record) in book::records(&file).expect("a right book").iter().enumerate() {
             let choice = rng.pick(&CHOICES);
-            let days = occurrences(&record.entry, choice);
+            let days: Vec<u16> =
+                occurrences(&record.entry, choice).iter().map(|showing| showing.day).collect();
             let last = days.last().map_or(0, |day| (day + 1).min(LAST_DAY));
             for asked in [edge_day(&mut rng), rng.within(0..=LAST_DAY.into()) as u16, last] {
                 let search = pages::next_occurrence(&file, number, asked, choice);

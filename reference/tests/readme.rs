@@ -151,7 +151,7 @@ fn the_page() {
 /// With either word, and without it.
 #[test]
 fn the_short_month() {
-    const MOVED: &str = "1993-04-30 Fri 1\n10:00-11:00 List\n";
+    const MOVED: &str = "1993-04-30 Fri 1\n10:00-11:00* List\n";
     let text = readme();
     let blocks = indented(&text);
     let at = beginning(&blocks, "./run 4868 ");

@@ -2,12 +2,13 @@
 //! points to, in files and buffers allocated with just their length. What it saw is what the reference gives.
 
 use apptbook::raw::book::BookAnswer;
-use apptbook::raw::pages::CountAnswer;
+use apptbook::raw::pages::{CountAnswer, FallsAnswer};
 use reference::answers::IntoAnswer;
 use reference::chains::check_chains;
 use reference::day_chains::{packed, unpacked};
 use reference::fuzz::chains::any_chains;
 use reference::fuzz::files;
+use reference::fuzz::numbers::SHORT_MONTH;
 use reference::pages::{ShortMonth, CHOICES};
 use reference::rng::Rng;
 use reference::vectors::fillers::filled;
@@ -19,7 +20,7 @@ use std::path::{Path, PathBuf};
 use std::process::{Command, Output};
 
 const MOST_RECORDS: usize = 40;
-const DAYS: [u16; 4] = [4_822, 4_850, 59, 43_829];
+const DAYS: [u16; 4] = [4_822, SHORT_MONTH, 59, 43_829];
 
 /// FNV-1a, of 64 bits.
 struct Hash(u64);
@@ -48,8 +49,9 @@ impl Hash {
             self.bytes(&note[line]);
         }
         for (at, day) in DAYS.into_iter().enumerate() {
-            let choice = if at == 0 { ShortMonth::Last } else { ShortMonth::Skip };
-            self.number(pages::falls_on(file, number, day, choice).expect("a record").into());
+            let choice = if at > 0 { ShortMonth::Last } else { ShortMonth::Skip };
+            let answer: FallsAnswer = pages::falls_on(file, number, day, choice).answer();
+            self.number(answer.falls.into());
             let search = pages::next_occurrence(file, number, day, choice).expect("a record");
             self.number(search.looked as usize);
         }
@@ -58,6 +60,7 @@ impl Hash {
     fn page(&mut self, file: &[u8], day: u16, choice: ShortMonth) {
         for line in pages::page(file, day, choice).expect("a right book").into_iter().take(MOST_RECORDS) {
             self.number(line.start.into());
+            self.number(line.moved.into());
             self.bytes(&file[line.text]);
         }
         let page = printed::printed_page(file, day, choice).expect("a right book");
@@ -204,6 +207,10 @@ fn every_byte_that_an_answer_points_to() {
     assert_eq!(seen.next(), None);
     let right = all.iter().filter(|file| book::read_book(file).is_ok()).count();
     assert!(right >= 50, "{right} right books");
+    let is_moved = |line: &pages::Line| line.moved;
+    let lines = all.iter().filter_map(|file| pages::page(file, SHORT_MONTH, ShortMonth::Last).ok()).flatten();
+    let moved = lines.filter(is_moved).count();
+    assert!(moved >= 10, "{moved} moved lines");
     let right = all.iter().filter(|file| unpacked(file).lent_to(check_chains).is_ok()).count();
     assert!(right >= 50, "{right} right day chains");
 }

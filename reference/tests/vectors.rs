@@ -7,15 +7,19 @@ use reference::calls::{Calls, PLAIN, PROVED};
 use reference::cases::{cases, word, Case};
 
 /// The requests that have landed: a case that holds until one of them is left out.
-const LANDED: [u16; 4] = [1, 2, 3, 5];
+const LANDED: [u16; 5] = [1, 2, 3, 5, 7];
 
-/// The answer's words, and nothing of the question is left.
-fn answer(mut case: Case, calls: &Calls) -> String {
+/// From the file of this request on, answers tell what is moved.
+const TELLS_MOVED: u16 = 7;
+
+/// The answer's words as the request's file has them, and nothing of the question is left.
+fn answer(mut case: Case, request: u16, calls: &Calls) -> String {
     let answer = match case.call {
         "read" => read(&mut case, calls),
-        "falls" => falls(&mut case, calls),
+        "falls" => falls(&mut case, request, calls),
         "next" => next(&mut case, calls),
-        "page" => page(&mut case, calls),
+        "page" => page(&mut case, request, calls),
+        "line" => line(&mut case, request, calls),
         "print" => print(&mut case, calls),
         "export" => export(&mut case, calls),
         "rewrite" => rewrite(&mut case, calls),
@@ -41,10 +45,11 @@ fn read(case: &mut Case, calls: &Calls) -> String {
     }
 }
 
-fn falls(case: &mut Case, calls: &Calls) -> String {
+fn falls(case: &mut Case, request: u16, calls: &Calls) -> String {
+    let words = if request < TELLS_MOVED { ["no", "yes", "yes"] } else { ["no", "own", "moved"] };
     let (book, record, day) = (case.bytes("book"), case.number("record"), case.number("day"));
     match (calls.falls_on)(&book, record.into(), day, case.choice(calls.default_choice())) {
-        FallsAnswer { number: 0, place: 0, falls } => format!("ok {}", if falls { "yes" } else { "no" }),
+        FallsAnswer { number: 0, place: 0, falls } => format!("ok {}", words[usize::from(falls)]),
         refusal => refused(refusal.number, refusal.place),
     }
 }
@@ -60,7 +65,25 @@ fn next(case: &mut Case, calls: &Calls) -> String {
     }
 }
 
-fn page(case: &mut Case, calls: &Calls) -> String {
+/// A page's line in words.
+fn line_words(book: &[u8], line: PageLineAnswer, request: u16) -> String {
+    let PageLineAnswer { record, start, end, alarm, moved, text_at, text_length, .. } = line;
+    let moved = if request < TELLS_MOVED { "".into() } else { format!("{}:", u8::from(moved)) };
+    let text = word(&book[text_at..text_at + text_length]);
+    format!(" {record}:{start}:{end}:{}:{moved}{text}", u8::from(alarm))
+}
+
+fn line(case: &mut Case, request: u16, calls: &Calls) -> String {
+    let (book, day, choice) = (case.bytes("book"), case.number("day"), case.choice(calls.default_choice()));
+    match (calls.page_line)(&book, day, choice, case.number("line").into()) {
+        line @ PageLineAnswer { number: 0, place: 0, .. } => {
+            format!("ok{}", line_words(&book, line, request))
+        }
+        refusal => refused(refusal.number, refusal.place),
+    }
+}
+
+fn page(case: &mut Case, request: u16, calls: &Calls) -> String {
     let (book, day, choice) = (case.bytes("book"), case.number("day"), case.choice(calls.default_choice()));
     let count = match (calls.page_lines)(&book, day, choice) {
         CountAnswer { number: 0, place: 0, count } => count,
@@ -69,8 +92,7 @@ fn page(case: &mut Case, calls: &Calls) -> String {
     let lines = (0..count).map(|line| {
         let line: PageLineAnswer = (calls.page_line)(&book, day, choice, line);
         assert_eq!((line.number, line.place), (0, 0));
-        let text = word(&book[line.text_at..line.text_at + line.text_length]);
-        format!(" {}:{}:{}:{}:{text}", line.record, line.start, line.end, u8::from(line.alarm))
+        line_words(&book, line, request)
     });
     format!("ok {count}{}", lines.collect::<String>())
 }
@@ -121,8 +143,8 @@ fn program(case: &mut Case, calls: &Calls) -> String {
     format!("ok {}", word(&(calls.program)(&words, &book)))
 }
 
-/// Runs all cases that hold; gives how many they are.
-fn run(text: &str, calls: &Calls) -> usize {
+/// Runs all cases of a request's file that hold; gives how many they are.
+fn run(text: &str, request: u16, calls: &Calls) -> usize {
     let mut all = cases(text);
     all.retain(|case| case.until.is_none_or(|request| !LANDED.contains(&request)));
     let mut names: Vec<&str> = all.iter().map(|case| case.name).collect();
@@ -130,7 +152,7 @@ fn run(text: &str, calls: &Calls) -> usize {
     assert!(names.windows(2).all(|pair| pair[0] != pair[1]), "a name twice");
     let mut wrong = vec![];
     for case in &all {
-        let given = answer(case.clone(), calls);
+        let given = answer(case.clone(), request, calls);
         if given != case.answer {
             wrong.push(format!("{}: {given:.200}, not {:.200}", case.name, case.answer));
         }
@@ -142,28 +164,29 @@ fn run(text: &str, calls: &Calls) -> usize {
 
 /// The file of a request, with its number of cases.
 macro_rules! vectors {
-    ($request:ident, $file:literal, $cases:literal) => {
-        mod $request {
+    ($name:ident, $request:literal, $file:literal, $cases:literal) => {
+        mod $name {
             use super::{run, PLAIN, PROVED};
 
             const TEXT: &str = include_str!($file);
 
             #[test]
             fn by_the_library() {
-                assert_eq!(run(TEXT, &PROVED), $cases);
+                assert_eq!(run(TEXT, $request, &PROVED), $cases);
             }
 
             #[test]
             fn by_the_reference() {
-                assert_eq!(run(TEXT, &PLAIN), $cases);
+                assert_eq!(run(TEXT, $request, &PLAIN), $cases);
             }
         }
     };
 }
 
-vectors!(r01, "vectors/r01.txt", 505);
-vectors!(r02, "vectors/r02.txt", 528);
-vectors!(r03, "vectors/r03.txt", 582);
+vectors!(r01, 1, "vectors/r01.txt", 505);
+vectors!(r02, 2, "vectors/r02.txt", 528);
+vectors!(r03, 3, "vectors/r03.txt", 577);
+vectors!(r07, 7, "vectors/r07.txt", 637);
 
 /// What `run` is to find fault with, on the case of document 01.
 mod faults {
@@ -175,7 +198,11 @@ mod faults {
     const MONTHLY: &str = "ffff010001e0011e00010500031000001f00005001010000c70c1f00000000320000";
 
     fn run(text: &str) -> usize {
-        super::run(text, &PLAIN)
+        run_of(7, text)
+    }
+
+    fn run_of(request: u16, text: &str) -> usize {
+        super::run(text, request, &PLAIN)
     }
 
     fn read(lines: &str, answer: &str) -> usize {
@@ -262,9 +289,39 @@ mod faults {
     }
 
     #[test]
-    #[should_panic(expected = "a: ok 1 0:0:0:0:-, not ok 0")]
+    #[should_panic(expected = "a: ok 1 0:0:0:0:1:-, not ok 0")]
     fn a_choice_that_is_not_named() {
         run(&format!("case a\ncall page\nbook {MONTHLY}\nday 4868\nchoice none\nanswer ok 0\n"));
+    }
+
+    /// On the day that a record of the 31st is moved to.
+    fn asked(call: &str, answer: &str) -> String {
+        format!("case a\ncall {call}\nbook {MONTHLY}\nday 4868\nchoice last\nanswer {answer}\n")
+    }
+
+    /// As they are told before R-7, and from then on.
+    #[test]
+    fn moved() {
+        for (call, before, after) in [
+            ("falls\nrecord 0", "ok yes", "ok moved"),
+            ("page", "ok 1 0:0:0:0:-", "ok 1 0:0:0:0:1:-"),
+            ("line\nline 0", "ok 0:0:0:0:-", "ok 0:0:0:0:1:-"),
+        ] {
+            assert_eq!([run_of(3, &asked(call, before)), run_of(7, &asked(call, after))], [1, 1]);
+        }
+        assert_eq!(run(&asked("line\nline 1", "refused 10 0")), 1);
+    }
+
+    #[test]
+    #[should_panic(expected = "a: ok moved, not ok own")]
+    fn a_wrong_word_for_moved() {
+        run(&asked("falls\nrecord 0", "ok own"));
+    }
+
+    #[test]
+    #[should_panic(expected = "a: ok 1 0:0:0:0:1:-, not ok 1 0:0:0:0:0:-")]
+    fn a_wrong_mark() {
+        run(&asked("page", "ok 1 0:0:0:0:0:-"));
     }
 
     #[test]

@@ -42,7 +42,7 @@ pub use days::{
 };
 pub use export::export;
 pub use pages::{
-    falls_on, next_occurrence, page_length, page_line, page_lines, print_page, Occurrence, PageLine,
+    falls_on, next_occurrence, page_length, page_line, page_lines, print_page, Falls, Occurrence, PageLine,
     ShortMonth,
 };
 pub use records::{Entry, Record, Rule, Times};
@@ -50,4 +50,4 @@ pub use refusals::Refusal;
 pub use writer::{add, close, open, Writer};
 
 /// `APPTBOOK_VERSION` of the header that this crate follows: raised whenever a call is added or changed.
-pub const VERSION: u32 = 3;
+pub const VERSION: u32 = 4;

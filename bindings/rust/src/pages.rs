@@ -30,6 +30,33 @@ impl ShortMonth {
     }
 }
 
+/// Whether a record falls on a day.
+#[derive(Clone, Copy, Debug, PartialEq, Eq)]
+pub enum Falls {
+    /// It does not.
+    Not,
+    /// On its own day.
+    OnItsDay,
+    /// On the month's last day, since its own day is missing there: only under [`ShortMonth::Last`].
+    Moved,
+}
+
+impl Falls {
+    /// Whether the day's page has the record. Moved is a showing, too.
+    pub fn is_shown(self) -> bool {
+        self != Falls::Not
+    }
+
+    fn from_raw(falls: u16) -> Self {
+        match falls {
+            raw::FALLS_NOT => Falls::Not,
+            raw::FALLS_ON_ITS_DAY => Falls::OnItsDay,
+            raw::FALLS_MOVED => Falls::Moved,
+            other => unreachable!("the library does not answer {other}"),
+        }
+    }
+}
+
 /// What a search for the next occurrence found.
 #[derive(Clone, Copy, Debug, Default, PartialEq, Eq)]
 pub struct Occurrence {
@@ -52,13 +79,16 @@ pub struct PageLine<'a> {
     pub end: u16,
     /// Alarm on.
     pub alarm: bool,
+    /// The record is moved to this day, which the printed page marks with an asterisk: see [`Falls::Moved`].
+    pub moved: bool,
 }
 
-/// Whether a record falls on a day. Refused with 11, then with 10 when there is no such record.
-pub fn falls_on(file: &[u8], record: usize, day: u16, choice: ShortMonth) -> Result<bool, Refusal> {
+/// Whether a record falls on a day, and whether it is moved there. Refused with 11, then with 10 when there is no such
+/// record.
+pub fn falls_on(file: &[u8], record: usize, day: u16, choice: ShortMonth) -> Result<Falls, Refusal> {
     let answer = raw::falls_on(file, record, day, choice);
     Refusal::check(answer.number, answer.place)?;
-    Ok(answer.falls)
+    Ok(Falls::from_raw(answer.falls))
 }
 
 /// The first day at or after the asked one on which a record falls. Refused with 11, then with 10 when there is no such
@@ -81,10 +111,10 @@ pub fn page_lines(file: &[u8], day: u16, choice: ShortMonth) -> Result<usize, Re
 
 /// A line of the page of a day, from 0. Refused with 11, then with 10 when the page has no such line.
 pub fn page_line(file: &[u8], day: u16, choice: ShortMonth, line: usize) -> Result<PageLine<'_>, Refusal> {
-    let raw::PageLineAnswer { number, place, record, text_at, text_length, start, end, alarm } =
+    let raw::PageLineAnswer { number, place, record, text_at, text_length, start, end, alarm, moved } =
         raw::page_line(file, day, choice, line);
     Refusal::check(number, place)?;
-    Ok(PageLine { record, text: &file[text_at..text_at + text_length], start, end, alarm })
+    Ok(PageLine { record, text: &file[text_at..text_at + text_length], start, end, alarm, moved })
 }
 
 /// How many bytes the printed page of a day has. Refused with 11.
@@ -92,8 +122,8 @@ pub fn page_length(file: &[u8], day: u16, choice: ShortMonth) -> Result<usize, R
     raw::page_length(file, day, choice).counted()
 }
 
-/// Prints the page of a day to the start of the buffer: how many bytes were written. Refused with 11, then with 12 when
-/// the buffer is shorter than the page; no byte is then changed.
+/// Prints the page of a day to the start of the buffer: how many bytes were written. No page has more than 65,535.
+/// Refused with 11, then with 12 when the buffer is shorter than the page; no byte is then changed.
 pub fn print_page(file: &[u8], day: u16, choice: ShortMonth, buffer: &mut [u8]) -> Result<usize, Refusal> {
     raw::print_page(file, day, choice, buffer).counted()
 }

@@ -40,7 +40,7 @@ fn the_book() {
 fn its_page() {
     let file = example("case.book");
     assert_eq!(page_lines(&file, 4_822, Skip), Ok(1));
-    let line = PageLine { record: 0, text: b"Dep", start: 600, end: 660, alarm: true };
+    let line = PageLine { record: 0, text: b"Dep", start: 600, end: 660, alarm: true, moved: false };
     assert_eq!(page_line(&file, 4_822, Skip, 0), Ok(line));
     assert_eq!(page_line(&file, 4_822, Skip, 1), refused(NO_SUCH_NUMBER, 0));
     assert_eq!(page_length(&file, 4_822, Last), Ok(PAGE.len()));
@@ -49,8 +49,8 @@ fn its_page() {
     assert_eq!(buffer, [b'#'; 40]);
     assert_eq!(print_page(&file, 4_822, Skip, &mut buffer), Ok(33));
     assert_eq!(buffer, *b"1993-03-15 Mon 1\n10:00-11:00 Dep\n#######");
-    assert_eq!(falls_on(&file, 0, 4_822, Skip), Ok(true));
-    assert_eq!(falls_on(&file, 0, 4_823, Skip), Ok(false));
+    assert_eq!(falls_on(&file, 0, 4_822, Skip), Ok(Falls::OnItsDay));
+    assert_eq!(falls_on(&file, 0, 4_823, Skip), Ok(Falls::Not));
     assert_eq!(next_occurrence(&file, 0, 4_800, Skip), Ok(Occurrence { day: Some(4_822), looked: 23 }));
     assert_eq!(next_occurrence(&file, 0, 43_828, Skip), Ok(Occurrence { day: None, looked: 2 }));
     assert_eq!(page_lines(&file, 43_830, Skip), refused(OUT_OF_RANGE, 0));
@@ -107,6 +107,16 @@ fn short_months() {
     assert_eq!(next(Skip), Some(4_899)); // 31 May
     assert_eq!(next(Last), Some(4_868)); // 30 April
     assert_eq!(next(ShortMonth::default()), Some(4_868), "who names none gets last");
+    assert_eq!(falls_on(&buffer, 0, 4_868, Skip), Ok(Falls::Not));
+    assert_eq!(falls_on(&buffer, 0, 4_868, Last), Ok(Falls::Moved));
+    assert_eq!(falls_on(&buffer, 0, 4_899, Last), Ok(Falls::OnItsDay));
+    assert_eq!([Falls::Not, Falls::OnItsDay, Falls::Moved].map(Falls::is_shown), [false, true, true]);
+    let line = PageLine { record: 0, text: b"", start: 0, end: 0, alarm: false, moved: true };
+    assert_eq!(page_line(&buffer, 4_868, Last, 0), Ok(line));
+    assert_eq!(page_line(&buffer, 4_899, Last, 0), Ok(PageLine { moved: false, ..line }));
+    let mut page = [0; 31];
+    assert_eq!(print_page(&buffer, 4_868, Last, &mut page), Ok(31));
+    assert_eq!(page, *b"1993-04-30 Fri 1\n00:00-00:00* \n");
 }
 
 #[test]

@@ -18,7 +18,7 @@ use calendar_writer::puts::put_appointment;
 use days::types::Minute;
 use falls::types::ShortMonth;
 use pages::codes::place_in;
-use pages::ordering::line_of;
+use pages::places::listed_at;
 use pages::places::rule_at;
 use prelude::numbers::bit_of;
 use prelude::slices::part;
@@ -56,12 +56,14 @@ fn fill_code(
     ensures { λ _.
         ⌜ now (out .exit) ≡ scatter (length (now (days .entry))) (λ k. marked c (now (days .entry)) k (decode (now (file .entry)) code)) (appointmentBytes (appointmentOf (now (file .entry)) interval (decode (now (file .entry)) code))) (now (places .entry)) 0 (now (out .entry)) ⌝ }
 {
-    let line = line_of(file, code);
-    let flags = flags_of(line.alarm, line.start, interval);
-    let text = part(file, line.text.place, line.text.length);
+    let at = place_in(code);
+    let listed = listed_at(file, at);
+    let start = listed.times.start;
+    let flags = flags_of(listed.times.alarm, start, interval);
+    let text = part(file, listed.text.place, listed.text.length);
     let mut piece = [0u8; 32];
-    let size = put_appointment(&mut piece, 0, line.start, flags, text);
-    let r = rule_at(file, place_in(code));
+    let size = put_appointment(&mut piece, 0, start, flags, text);
+    let r = rule_at(file, at);
     put_hits(c, r, first, days, &piece[..size], places, out);
 }
 

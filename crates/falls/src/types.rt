@@ -7,6 +7,13 @@ pub enum ShortMonth {
     Last,
 }
 
+// Document 02, R-7: whether a record falls on a day: not, on its own day, or moved to the month's last day.
+pub enum Falling {
+    No,
+    Own,
+    Moved,
+}
+
 // A record's times and its alarm mark.
 pub struct Times {
     pub start: Minute,

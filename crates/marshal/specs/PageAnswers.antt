@@ -4,6 +4,7 @@ use Prim.Native.Nat.{ℕ}
 use mathlib.Core.Bool.{Bool, true, false}
 use Rattle.prelude.specs.Choice.{ifB}
 use Rattle.days.specs.declared.types.CalendarDay.{CalendarDay}
+use Rattle.falls.specs.declared.types.Falling.{Falling}
 use Rattle.falls.specs.declared.types.ShortMonth.{ShortMonth}
 use Rattle.pages.specs.declared.types.FallsAnswer.{FallsAnswer}
 use Rattle.pages.specs.declared.types.LineAnswer.{LineAnswer}
@@ -19,9 +20,15 @@ dayOf n = record { 0 = n }
 unfoldable pub choiceOf : Bool → ShortMonth
 choiceOf last = ifB last ShortMonth.Last ShortMonth.Skip
 
+-- APPTBOOK_FALLS_NOT, APPTBOOK_FALLS_ON_ITS_DAY, APPTBOOK_FALLS_MOVED
+unfoldable pub fallingOut : Falling → ℕ
+fallingOut Falling.No = 0
+fallingOut Falling.Own = 1
+fallingOut Falling.Moved = 2
+
 unfoldable pub fallsOut : FallsAnswer → FallsOut
-fallsOut (FallsAnswer.Falls b) = record { number = 0; place = 0; falls = b }
-fallsOut (FallsAnswer.Refused e) = record { number = e .number; place = e .place; falls = false }
+fallsOut (FallsAnswer.Falls b) = record { number = 0; place = 0; falls = fallingOut b }
+fallsOut (FallsAnswer.Refused e) = record { number = e .number; place = e .place; falls = 0 }
 
 unfoldable pub pageLineOut : LineAnswer → PageLineOut
 pageLineOut (LineAnswer.Line l) =
@@ -34,6 +41,7 @@ pageLineOut (LineAnswer.Line l) =
       start = l .start .0;
       end = l .end .0;
       alarm = l .alarm;
+      moved = l .moved;
     }
 pageLineOut (LineAnswer.Refused e) =
     record {
@@ -45,6 +53,7 @@ pageLineOut (LineAnswer.Refused e) =
       start = 0;
       end = 0;
       alarm = false;
+      moved = false;
     }
 
 -- found, or none with the days looked at

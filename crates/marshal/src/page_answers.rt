@@ -1,6 +1,7 @@
 // Day pages and the next occurrence. The short-month choice comes as a flag: whether a missing day shows on the month's last day.
 ghost use mathlib.Core.Path.{_≡_};
-ghost use Rattle.marshal.specs.PageAnswers.{choiceOf, fallsOut, pageLineOut, nextOut};
+ghost use Rattle.marshal.specs.PageAnswers.{choiceOf, fallingOut, fallsOut, pageLineOut, nextOut};
+use falls::types::Falling;
 use falls::types::ShortMonth;
 use pages::types::FallsAnswer;
 use pages::types::LineAnswer;
@@ -10,7 +11,7 @@ use pages::types::NextAnswer;
 pub struct FallsOut {
     pub number: u32,
     pub place: usize,
-    pub falls: bool,
+    pub falls: u16,
 }
 
 #[repr(C)]
@@ -23,6 +24,7 @@ pub struct PageLineOut {
     pub start: u16,
     pub end: u16,
     pub alarm: bool,
+    pub moved: bool,
 }
 
 #[repr(C)]
@@ -53,19 +55,29 @@ pub fn last_of(c: ShortMonth) -> bool
     }
 }
 
+fn falling_out(f: Falling) -> u16
+    ensures { λ r. ⌜ r ≡ fallingOut f ⌝ }
+{
+    match f {
+        Falling::No => 0,
+        Falling::Own => 1,
+        Falling::Moved => 2,
+    }
+}
+
 pub fn falls_out(a: FallsAnswer) -> FallsOut
     ensures { λ r. ⌜ r ≡ fallsOut a ⌝ }
 {
     match a {
-        FallsAnswer::Falls(falls) => FallsOut {
+        FallsAnswer::Falls(f) => FallsOut {
             number: 0,
             place: 0,
-            falls,
+            falls: falling_out(f),
         },
         FallsAnswer::Refused(e) => FallsOut {
             number: e.number,
             place: e.place,
-            falls: false,
+            falls: 0,
         },
     }
 }
@@ -83,6 +95,7 @@ pub fn page_line_out(a: LineAnswer) -> PageLineOut
             start: l.start.0,
             end: l.end.0,
             alarm: l.alarm,
+            moved: l.moved,
         },
         LineAnswer::Refused(e) => PageLineOut {
             number: e.number,
@@ -93,6 +106,7 @@ pub fn page_line_out(a: LineAnswer) -> PageLineOut
             start: 0,
             end: 0,
             alarm: false,
+            moved: false,
         },
     }
 }

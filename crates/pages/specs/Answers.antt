@@ -13,8 +13,9 @@ use Rattle.days.specs.declared.types.CalendarDay.{CalendarDay}
 use Rattle.days.specs.declared.types.DayFacts.{DayFacts}
 use Rattle.book.specs.Books.{bookOf}
 use Rattle.book.specs.declared.types.BookAnswer.{BookAnswer}
+use Rattle.falls.specs.Moved.{falling}
 use Rattle.falls.specs.declared.types.ShortMonth.{ShortMonth}
-use Rattle.pages.specs.Pages.{Numbered, numbered, fallsOn, pageOf, pageLineOf, nth}
+use Rattle.pages.specs.Pages.{Numbered, numbered, pageOf, pageLineOf, nth}
 use Rattle.pages.specs.Next.{nextOf}
 use Rattle.pages.specs.declared.types.Ready.{Ready}
 use Rattle.pages.specs.declared.types.Validated.{Validated}
@@ -33,10 +34,10 @@ validatedDay n (BookAnswer.Refused e) = Validated.Refused e
 unfoldable pub validated : List ℕ → CalendarDay → Validated
 validated f n = validatedDay n (bookOf f)
 
--- does the record of a number fall on the day
+-- document 02, R-7: does the record of a number fall on the day: "no, on its own day, or moved"
 unfoldable pub fallsIn : List ℕ → ShortMonth → ℕ → Validated → FallsAnswer
 fallsIn f c k (Validated.Ready a) =
-    nth (numbered f) k (FallsAnswer.Refused (refusal noSuchNumber)) (λ x. FallsAnswer.Falls (fallsOn c (a .facts) x))
+    nth (numbered f) k (FallsAnswer.Refused (refusal noSuchNumber)) (λ x. FallsAnswer.Falls (falling c (a .facts) (x .entry .«record»)))
 fallsIn f c k (Validated.Refused e) = FallsAnswer.Refused e
 
 -- the same of a file and a day
@@ -58,7 +59,7 @@ pageCount shows f n = pageCountIn shows f (validated f n)
 -- "and the line at a place"
 unfoldable pub pageLineIn : (DayFacts → Numbered → Bool) → List ℕ → ℕ → Validated → LineAnswer
 pageLineIn shows f k (Validated.Ready a) =
-    nth (pageOf (shows (a .facts)) f) k (LineAnswer.Refused (refusal noSuchNumber)) (λ x. LineAnswer.Line (pageLineOf x))
+    nth (pageOf (shows (a .facts)) f) k (LineAnswer.Refused (refusal noSuchNumber)) (λ x. LineAnswer.Line (pageLineOf (a .facts) x))
 pageLineIn shows f k (Validated.Refused e) = LineAnswer.Refused e
 
 -- the same of a file and a day

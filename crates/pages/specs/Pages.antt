@@ -9,6 +9,7 @@ use Rattle.days.specs.declared.types.DayFacts.{DayFacts}
 use Rattle.book.specs.Books.{entriesOf}
 use Rattle.book.specs.declared.types.Entry.{Entry}
 use Rattle.falls.specs.Falls.{falls}
+use Rattle.falls.specs.Moved.{dayMissing}
 use Rattle.falls.specs.Times.{timesOf}
 use Rattle.falls.specs.declared.types.ShortMonth.{ShortMonth}
 use Rattle.falls.specs.declared.types.Times.{Times}
@@ -44,10 +45,18 @@ fallsOn c d x = falls c d (x .entry .«record»)
 abbrev pub pageOn : ShortMonth → DayFacts → List ℕ → List Numbered
 pageOn c d f = pageOf (fallsOn c d) f
 
--- a line of the page: record number, start, end, alarm, and the text's stretch
-unfoldable pub pageLineOf : Numbered → Line
-pageLineOf x =
-    record { number = x .number; start = recordTimes x .start; end = recordTimes x .end; alarm = recordTimes x .alarm; text = x .entry .text }
+-- a line of the page of the day whose facts are d: record number, start, end, alarm, moved (document 02, R-7), and the text's stretch.
+-- Its record falls on that day, so it was moved just where its own day is missing from the month (`line-falling`).
+unfoldable pub pageLineOf : DayFacts → Numbered → Line
+pageLineOf d x =
+    record {
+      number = x .number;
+      start = recordTimes x .start;
+      end = recordTimes x .end;
+      alarm = recordTimes x .alarm;
+      moved = dayMissing d (x .entry .«record»);
+      text = x .entry .text;
+    }
 
 -- "the line at a place": what some gives of the element at a number, or none where there is none of that number
 unfoldable pub nth : {A X : Type 0} → List A → ℕ → X → (A → X) → X

@@ -44,9 +44,10 @@ fn line_with(
     requires { ⌜ length (now codes) ≤ length (now spare) ⌝ }
     ensures { λ r. ⌜ r ≡ pageLineIn (fallsOn c) (now (file .entry)) k (Validated.Ready a) ⌝ }
 {
+    let f = a.facts;
     let n = page_codes(file, c, a, codes, spare);
     if k < n {
-        return LineAnswer::Line(line_of(file, codes[k]));
+        return LineAnswer::Line(line_of(file, f, codes[k]));
     }
     LineAnswer::Refused(NO_SUCH_NUMBER)
 }

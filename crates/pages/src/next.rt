@@ -1,4 +1,4 @@
-// One record asked alone: whether it falls on a day, and when it falls next.
+// One record asked alone: whether it falls on a day or was moved there, and when it falls next.
 ghost use mathlib.Core.Path.{_≡_};
 ghost use Rattle.days.specs.Facts.{factsOf};
 ghost use Rattle.day_steps.specs.Codes.{dayCode};
@@ -8,7 +8,7 @@ ghost use Rattle.pages.specs.Answers.{fallsIn, nextIn, nextOccurrence, r
 ghost use Rattle.pages.specs.Next.{nextOf};
 ghost use Rattle.pages.specs.Invariants.{ReadyBook};
 ghost use Rattle.pages.specs.Pages.{fallsOn};
-use crate::places::falls_there;
+use crate::places::falling_at;
 use crate::places::rule_at;
 use crate::types::FallsAnswer;
 use crate::types::NextAnswer;
@@ -32,12 +32,12 @@ fn falls_in(file: &[u8], c: ShortMonth, k: usize, a: Ready) -> FallsAnswer
     if k < a.records {
         let at = place_of(file, k);
         let f = a.facts;
-        return FallsAnswer::Falls(falls_there(file, at, c, f));
+        return FallsAnswer::Falls(falling_at(file, at, c, f));
     }
     FallsAnswer::Refused(NO_SUCH_NUMBER)
 }
 
-// Whether the record of a number falls on a day.
+// Whether the record of a number falls on a day: not, on its own day, or moved.
 pub fn record_falls(file: &[u8], k: usize, n: CalendarDay, c: ShortMonth) -> FallsAnswer
     ensures { λ r. ⌜ r ≡ recordFalls (now (file .entry)) c n k ⌝ }
 {

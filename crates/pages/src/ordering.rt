@@ -12,6 +12,8 @@ use crate::collecting::collect;
 use crate::places::listed_at;
 use crate::types::Line;
 use crate::types::Ready;
+use days::types::DayFacts;
+use falls::moved::lacks;
 use falls::types::ShortMonth;
 use sorting::ordering::order_codes;
 
@@ -35,9 +37,9 @@ pub fn page_codes(
     n
 }
 
-// The line of a code.
-pub fn line_of(file: &[u8], code: u64) -> Line
-    ensures { λ r. ⌜ r ≡ pageLineOf (decode (now (file .entry)) code) ⌝ }
+// The line of a code on the page of a day.
+pub fn line_of(file: &[u8], f: DayFacts, code: u64) -> Line
+    ensures { λ r. ⌜ r ≡ pageLineOf f (decode (now (file .entry)) code) ⌝ }
 {
     let number = number_in(code);
     let at = place_in(code);
@@ -50,6 +52,7 @@ pub fn line_of(file: &[u8], code: u64) -> Line
         start,
         end,
         alarm: listed.times.alarm,
+        moved: lacks(f, listed.named),
         text,
     }
 }

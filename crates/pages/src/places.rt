@@ -5,6 +5,7 @@ ghost use Rattle.records.specs.Fields.{fixedOf, textLength};
 ghost use Rattle.book.specs.Invariants.{RecordAt};
 ghost use Rattle.book.specs.Books.{entryAt, mostBookBytes};
 ghost use Rattle.falls.specs.Falls.{falls};
+ghost use Rattle.falls.specs.Moved.{namedDay, falling};
 ghost use Rattle.falls.specs.Times.{timesOf};
 ghost use Rattle.occurrences.specs.Rules.{ruleOf};
 use crate::types::Listed;
@@ -13,10 +14,12 @@ use book::entries::body_at;
 use book::entries::body_from;
 use days::types::DayFacts;
 use days::types::Minute;
-use falls::rules::falls_on;
+use falls::moved::falling_on;
+use falls::moved::named_day;
 use falls::rules::falls_quickly;
 use falls::times::start_of;
 use falls::times::times_of;
+use falls::types::Falling;
 use falls::types::ShortMonth;
 use occurrences::reading::rule_of;
 use occurrences::types::Rule;
@@ -33,12 +36,12 @@ pub fn falls_at(file: &[u8], at: usize, c: ShortMonth, f: DayFacts) -> bool
     falls_quickly(c, f, file[at], body_at(file, at))
 }
 
-// The same, asked once.
-pub fn falls_there(file: &[u8], at: usize, c: ShortMonth, f: DayFacts) -> bool
+// Whether it falls on a day, and if so whether it was moved there.
+pub fn falling_at(file: &[u8], at: usize, c: ShortMonth, f: DayFacts) -> Falling
     requires { ⌜ RecordAt (now file) at ⌝ }
-    ensures { λ r. ⌜ r ≡ falls c f (entryAt (now (file .entry)) at .«record») ⌝ }
+    ensures { λ r. ⌜ r ≡ falling c f (entryAt (now (file .entry)) at .«record») ⌝ }
 {
-    falls_on(c, f, file[at], body_at(file, at))
+    falling_on(c, f, file[at], body_at(file, at))
 }
 
 // Its start minute.
@@ -60,24 +63,18 @@ fn text_in(at: usize, t: u8, p: &[u8]) -> Stretch
     }
 }
 
-// Where its text lies. From here on nothing is asked of the place but that it is one of a book.
-pub fn text_at(file: &[u8], at: usize) -> Stretch
-    requires { ⌜ at ≤ mostBookBytes ⌝ }
-    ensures { λ r. ⌜ r ≡ entryAt (now (file .entry)) at .text ⌝ }
-{
-    text_in(at, byte(file, at), body_from(file, at))
-}
-
-// Its times, its alarm mark and where its text lies, in one reading.
+// What a page lists of it, in one reading. Nothing is asked of the place but that it is one of a book.
 pub fn listed_at(file: &[u8], at: usize) -> Listed
     requires { ⌜ at ≤ mostBookBytes ⌝ }
     ensures { λ r. ⌜ r .times ≡ timesOf (entryAt (now (file .entry)) at .«record») ⌝ }
+    ensures { λ r. ⌜ r .named ≡ namedDay (entryAt (now (file .entry)) at .«record») ⌝ }
     ensures { λ r. ⌜ r .text ≡ entryAt (now (file .entry)) at .text ⌝ }
 {
     let t = byte(file, at);
     let p = body_from(file, at);
     Listed {
         times: times_of(t, p),
+        named: named_day(t, p),
         text: text_in(at, t, p),
     }
 }

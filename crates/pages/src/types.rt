@@ -2,6 +2,7 @@
 use days::types::CalendarDay;
 use days::types::DayFacts;
 use days::types::Minute;
+use falls::types::Falling;
 use falls::types::Times;
 use prelude::refusals::Refusal;
 use prelude::slices::Stretch;
@@ -17,23 +18,25 @@ pub enum Validated {
     Refused(Refusal),
 }
 
-// What a page lists of a record: its times, its alarm mark, and where its text lies in the file.
+// What a page lists of a record: its times, its alarm mark, the day of the month that it names or 0, and where its text lies.
 pub struct Listed {
     pub times: Times,
+    pub named: u16,
     pub text: Stretch,
 }
 
-// A line of a page: the record's number, its times, its alarm mark, and where its text lies in the file.
+// A line of a page: the record's number, its times, its alarm mark, whether it was moved to this day, and where its text lies.
 pub struct Line {
     pub number: usize,
     pub start: Minute,
     pub end: Minute,
     pub alarm: bool,
+    pub moved: bool,
     pub text: Stretch,
 }
 
 pub enum FallsAnswer {
-    Falls(bool),
+    Falls(Falling),
     Refused(Refusal),
 }
 

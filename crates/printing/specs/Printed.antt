@@ -5,7 +5,7 @@ use Prim.Native.Nat.{ℕ, _/_, _%_}
 use mathlib.Core.Bool.{Bool}
 use mathlib.Core.List.{List, [], _∷_, _++_, map}
 use lib.ListN.{length}
-use Rattle.prelude.specs.Choice.{ifEq}
+use Rattle.prelude.specs.Choice.{ifEq, ifB}
 use Rattle.prelude.specs.Bytes.{stretchBytes}
 use Rattle.digits.specs.Digits.{two, four, decimal}
 use Rattle.days.specs.declared.types.Date.{Date}
@@ -24,6 +24,9 @@ dash = 0x2D
 
 abbrev pub colon : ℕ
 colon = 0x3A
+
+abbrev pub asterisk : ℕ
+asterisk = 0x2A
 
 -- "date": 1993-03-15
 unfoldable pub dateText : Date → List ℕ
@@ -48,10 +51,14 @@ headLine d n =
 unfoldable pub clock : ℕ → List ℕ
 clock m = two (m / 60) ++ (colon ∷ two (m % 60))
 
+-- document 02, R-7: "Pages mark a moved line with an asterisk straight after the end time"
+unfoldable pub movedMark : Bool → List ℕ
+movedMark moved = ifB moved (asterisk ∷ []) []
+
 -- "each start, end and text; an empty text leaves the space before it"
 unfoldable pub pageLine : List ℕ → Line → List ℕ
 pageLine f l =
-    clock (l .start .0) ++ (dash ∷ (clock (l .end .0) ++ (space ∷ (stretchBytes f (l .text) ++ (newline ∷ [])))))
+    clock (l .start .0) ++ (dash ∷ (clock (l .end .0) ++ (movedMark (l .moved) ++ (space ∷ (stretchBytes f (l .text) ++ (newline ∷ []))))))
 
 unfoldable pub pageLines : List ℕ → List Line → List ℕ
 pageLines f [] = []
@@ -62,4 +69,4 @@ printed f d ls = headLine d (length ls) ++ pageLines f ls
 
 -- the printed page of the day whose facts are d, for any test of what shows
 unfoldable pub pageText : (DayFacts → Numbered → Bool) → List ℕ → DayFacts → List ℕ
-pageText shows f d = printed f d (map pageLineOf (pageOf (shows d) f))
+pageText shows f d = printed f d (map (pageLineOf d) (pageOf (shows d) f))

@@ -6,9 +6,9 @@ ghost use Rattle.prelude.specs.Splice.{splice};
 ghost use Rattle.pages.specs.Invariants.{ReadyBook};
 ghost use Rattle.pages.specs.declared.types.Validated.{Validated};
 ghost use Rattle.pages.specs.Pages.{fallsOn};
-ghost use Rattle.printing.specs.Coded.{codedText};
+ghost use Rattle.printing.specs.Coded.{codedText, CodesOf};
 ghost use Rattle.printing.specs.Answers.{textGives, textLeaves, printIn, printLeaves, pageLength, printGives, printLeft};
-use crate::measures::coded_size;
+use crate::measures::exceeds;
 use crate::measures::page_size;
 use crate::puts::put_head;
 use crate::puts::put_lines;
@@ -40,16 +40,17 @@ fn put_page(file: &[u8], f: DayFacts, codes: &[u64], out: &mut [u8]) -> usize
     ensures put { λ _. ⌜ now (out .exit) ≡ splice (now (out .entry)) 0 (codedText (now (file .entry)) f (now (codes .entry))) ⌝ }
 {
     let at = put_head(out, 0, f, codes.len());
-    put_lines(file, codes, out, at)
+    put_lines(file, f, codes, out, at)
 }
 
 // The page of codes, measured and then put.
 fn print_codes(file: &[u8], f: DayFacts, codes: &[u64], out: &mut [u8]) -> CountAnswer
     requires { ⌜ length (codedText (now file) f (now codes)) ≤ 65535 ⌝ }
+    requires { ⌜ CodesOf (now file) (now codes) ⌝ }
     ensures gives { λ r. ⌜ r ≡ textGives (length (now (out .entry))) (codedText (now (file .entry)) f (now (codes .entry))) ⌝ }
     ensures leaves { λ _. ⌜ now (out .exit) ≡ textLeaves (now (out .entry)) (codedText (now (file .entry)) f (now (codes .entry))) ⌝ }
 {
-    if out.len() < coded_size(file, f, codes) {
+    if exceeds(file, f, codes, out.len()) {
         return CountAnswer::Refused(NO_ROOM);
     }
     CountAnswer::Count(put_page(file, f, codes, out))

@@ -3,7 +3,7 @@ ghost use mathlib.Core.Path.{_≡_};
 ghost use Prim.Native.Nat.{_+_, _≤_};
 ghost use lib.ListN.{length};
 ghost use Rattle.prelude.specs.Splice.{splice};
-ghost use Rattle.printing.specs.Printed.{dateText, weekdayName, headLine, clock, pageLine, pageLines};
+ghost use Rattle.printing.specs.Printed.{dateText, weekdayName, headLine, clock, movedMark, pageLine, pageLines};
 ghost use Rattle.printing.specs.Coded.{codedLines};
 use days::types::Date;
 use days::types::DayFacts;
@@ -86,6 +86,17 @@ fn put_clock(out: &mut [u8], at: usize, m: u16) -> usize
     put_two(out, b, m % 60)
 }
 
+fn put_mark(out: &mut [u8], at: usize, moved: bool) -> usize
+    requires { ⌜ at + length (movedMark moved) ≤ length (now out) ⌝ }
+    ensures next { λ r. ⌜ r ≡ at + length (movedMark moved) ⌝ }
+    ensures put { λ _. ⌜ now (out .exit) ≡ splice (now (out .entry)) at (movedMark moved) ⌝ }
+{
+    if moved {
+        return put_byte(out, at, b'*');
+    }
+    at
+}
+
 fn put_line(file: &[u8], l: Line, out: &mut [u8], at: usize) -> usize
     requires { ⌜ at + length (pageLine (now file) l) ≤ length (now out) ⌝ }
     ensures next { λ r. ⌜ r ≡ at + length (pageLine (now (file .entry)) l) ⌝ }
@@ -94,22 +105,23 @@ fn put_line(file: &[u8], l: Line, out: &mut [u8], at: usize) -> usize
     let a = put_clock(out, at, l.start.0);
     let b = put_byte(out, a, b'-');
     let c = put_clock(out, b, l.end.0);
-    let d = put_byte(out, c, b' ');
+    let d = put_mark(out, c, l.moved);
+    let e = put_byte(out, d, b' ');
     let text = part(file, l.text.place, l.text.length);
-    let e = copy_in(out, d, text);
-    put_byte(out, e, b'\n')
+    let g = copy_in(out, e, text);
+    put_byte(out, g, b'\n')
 }
 
-// The lines of codes, one behind the other.
-pub fn put_lines(file: &[u8], codes: &[u64], out: &mut [u8], at: usize) -> usize
-    requires { ⌜ at + length (pageLines (now file) (codedLines (now file) (now codes))) ≤ length (now out) ⌝ }
-    ensures next { λ r. ⌜ r ≡ at + length (pageLines (now (file .entry)) (codedLines (now (file .entry)) (now (codes .entry)))) ⌝ }
-    ensures put { λ _. ⌜ now (out .exit) ≡ splice (now (out .entry)) at (pageLines (now (file .entry)) (codedLines (now (file .entry)) (now (codes .entry)))) ⌝ }
+// The lines of codes on the page of a day, one behind the other.
+pub fn put_lines(file: &[u8], f: DayFacts, codes: &[u64], out: &mut [u8], at: usize) -> usize
+    requires { ⌜ at + length (pageLines (now file) (codedLines (now file) f (now codes))) ≤ length (now out) ⌝ }
+    ensures next { λ r. ⌜ r ≡ at + length (pageLines (now (file .entry)) (codedLines (now (file .entry)) f (now (codes .entry)))) ⌝ }
+    ensures put { λ _. ⌜ now (out .exit) ≡ splice (now (out .entry)) at (pageLines (now (file .entry)) (codedLines (now (file .entry)) f (now (codes .entry)))) ⌝ }
 {
     let mut pos = at;
     let mut i = 0;
     while i < codes.len() {
-        let l = line_of(file, codes[i]);
+        let l = line_of(file, f, codes[i]);
         pos = put_line(file, l, out, pos);
         i += 1;
     }

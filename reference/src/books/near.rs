@@ -4,7 +4,7 @@
 use super::drafts::{Draft, Field};
 use super::file::File;
 use crate::civil;
-use crate::days::{day_facts, Date, LAST_DAY};
+use crate::days::{day_facts, Date, Facts, LAST_DAY};
 use crate::rng::Rng;
 
 const MINUTES: [u16; 6] = [0, 1, 255, 480, 600, 1_439];
@@ -48,9 +48,19 @@ pub fn near(day: u16, kind: u8, rng: &mut Rng) -> Draft {
     draft
 }
 
-/// A book of such records.
+/// A book of such records. If the day is its month's last, some want a later one, and last moves them to it.
 pub fn book_near(day: u16, records: usize, rng: &mut Rng) -> File {
-    let records: Vec<_> = (0..records).map(|_| near(day, rng.within(1..=6) as u8, rng)).collect();
+    let Facts { date, month_length, .. } = day_facts(day).expect("a Calendar day");
+    let mut record = |_| {
+        let mut draft = near(day, rng.within(1..=6) as u8, rng);
+        if date.day == month_length && rng.one_in(2) {
+            let (month, wanted) = (date.month as u8, rng.within(date.day.into()..=31) as u8);
+            draft.put(Field::Day, [wanted]);
+            draft.put(Field::MonthAndDay, [month, wanted.min(longest(month))]);
+        }
+        draft
+    };
+    let records: Vec<_> = (0..records).map(&mut record).collect();
     File::random(&records, rng)
 }
 

@@ -4,7 +4,7 @@ use super::look::Look;
 use super::memory::{crashes_show, Pages};
 use super::{chains, dates, files, numbers, writing, Tally};
 use crate::answers::IntoAnswer;
-use crate::pages::ShortMonth;
+use crate::pages::{Falls, ShortMonth};
 use crate::rng::Rng;
 use crate::{book, calendar, export, pages, printed};
 use apptbook::raw;
@@ -87,29 +87,36 @@ fn reading(look: &mut Look, file: &[u8], rng: &mut Rng) {
 }
 
 /// Any day, or one on which a record falls, where there is one.
-fn likely_day(file: &[u8], rng: &mut Rng) -> u16 {
+fn likely_day(file: &[u8], choice: ShortMonth, rng: &mut Rng) -> u16 {
     let day = numbers::day(rng);
     if rng.one_in(2) {
         return day;
     }
     let record = rng.below(4) as usize;
-    let search = pages::next_occurrence(file, record, day, ShortMonth::Skip);
+    let search = pages::next_occurrence(file, record, day, choice);
     search.ok().and_then(|search| search.day).unwrap_or(day)
 }
 
 fn showing(look: &mut Look, file: &[u8], rng: &mut Rng) {
     look.same("default_last", raw::pages::default_last(), pages::DEFAULT == ShortMonth::Last);
-    let (day, choice) = (likely_day(file, rng), numbers::choice(rng));
-    let record = numbers::long(book::read_book(file).map_or(3, |book| book.records), rng);
+    let choice = numbers::choice(rng);
+    let day = likely_day(file, choice, rng);
+    let lines = pages::page_lines(file, day, choice);
+    look.at("page_lines", raw::pages::page_lines(file, day, choice), lines);
+    let page = pages::page(file, day, choice).unwrap_or_default();
+    // Where there is a moved line, most often that one and its record.
+    let moved = page.iter().position(|line| line.moved).filter(|_| !rng.one_in(4));
+    let line = moved.unwrap_or_else(|| numbers::long(lines.unwrap_or(3), rng));
+    let plain = pages::page_line(file, day, choice, line);
+    look.tally.moved[1] += u64::from(plain.as_ref().is_ok_and(|line| line.moved));
+    look.at("page_line", raw::pages::page_line(file, day, choice, line), plain);
+    let records = book::read_book(file).map_or(3, |book| book.records);
+    let record = moved.map_or_else(|| numbers::long(records, rng), |line| page[line].record);
     let falls = pages::falls_on(file, record, day, choice);
+    look.tally.moved[0] += u64::from(falls == Ok(Falls::Moved));
     look.at("falls_on", raw::pages::falls_on(file, record, day, choice), falls);
     let next = pages::next_occurrence(file, record, day, choice);
     look.at("next_occurrence", raw::pages::next_occurrence(file, record, day, choice), next);
-    let lines = pages::page_lines(file, day, choice);
-    look.at("page_lines", raw::pages::page_lines(file, day, choice), lines);
-    let line = numbers::long(lines.unwrap_or(3), rng);
-    let plain = pages::page_line(file, day, choice, line);
-    look.at("page_line", raw::pages::page_line(file, day, choice, line), plain);
 }
 
 fn opening(look: &mut Look, file: &[u8], rng: &mut Rng) {
@@ -160,7 +167,8 @@ fn written(
 }
 
 fn printing(look: &mut Look, file: &[u8], buffer: &mut Pages, rng: &mut Rng) {
-    let (day, choice) = (likely_day(file, rng), numbers::choice(rng));
+    let choice = numbers::choice(rng);
+    let day = likely_day(file, choice, rng);
     let length = printed::page_length(file, day, choice);
     look.at("page_length", raw::pages::page_length(file, day, choice), length);
     let room = room(length.unwrap_or(40), rng);

@@ -5,6 +5,7 @@ use crate::books::{self, book_near, book_of_span, crowded, edge_day, Span, FILLE
 use crate::calendar;
 use crate::calendars;
 use crate::export::export;
+use crate::fuzz::numbers::SHORT_MONTH;
 use crate::rng::Rng;
 
 /// Words that stand at some edge, and bytes of heads and records.
@@ -34,9 +35,10 @@ pub fn book(rng: &mut Rng) -> Vec<u8> {
 /// With records near to days of 1993 and 1994, or to any day.
 fn right_book(rng: &mut Rng) -> Vec<u8> {
     let records = rng.pick(&[0, 1, 2, 3, 8, 30]);
-    match rng.below(3) {
+    match rng.below(4) {
         0 => book_near(edge_day(rng), records, rng).bytes,
-        1 => book_of_span(Span { first: 4_822, count: 366 }, records, rng).bytes,
+        1 => book_near(SHORT_MONTH, records, rng).bytes,
+        2 => book_of_span(Span { first: 4_822, count: 366 }, records, rng).bytes,
         _ => book_of_span(Span { first: 4_822, count: 7 }, records, rng).bytes,
     }
 }

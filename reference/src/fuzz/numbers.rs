@@ -9,6 +9,9 @@ const SHORT: &[u16] = &[
     65_534, 65_535,
 ];
 
+/// 28 February 1994, to which records may be moved.
+pub const SHORT_MONTH: u16 = 5_172;
+
 pub fn short(rng: &mut Rng) -> u16 {
     match rng.below(4) {
         0 => rng.u16(),
@@ -22,6 +25,7 @@ pub fn day(rng: &mut Rng) -> u16 {
     match rng.below(8) {
         0 => short(rng),
         1 => rng.below(43_830) as u16,
+        2 => SHORT_MONTH,
         _ => 4_822 + rng.below(366) as u16,
     }
 }

@@ -3,8 +3,8 @@
 use super::WHOLE_CASE;
 use crate::pages::ShortMonth::{self, Last, Skip};
 
-const HEAD: &[u8] = &[0xFF, 0xFF, 1, 0, 1, 0xE0, 0x01, 30, 0, 1, 5, 0];
-const END: &[u8] = &[50, 0, 0];
+pub(super) const HEAD: &[u8] = &[0xFF, 0xFF, 1, 0, 1, 0xE0, 0x01, 30, 0, 1, 5, 0];
+pub(super) const END: &[u8] = &[50, 0, 0];
 
 /// A book, a day, a choice, and the page.
 pub struct Shown {
@@ -92,19 +92,71 @@ pub fn short_months() -> Vec<Shown> {
     let of = |day, choice, page| shown([TO_30, TO_29, FROM_30, LEAP, TO_27, FROM_1], day, choice, page);
     vec![
         of(4_868, Skip, b"1993-04-30 Fri 0\n"),
-        of(4_868, Last, b"1993-04-30 Fri 2\n00:01-00:01 R\n00:03-00:03 T\n"),
+        of(4_868, Last, b"1993-04-30 Fri 2\n00:01-00:01* R\n00:03-00:03* T\n"),
         of(4_867, Last, b"1993-04-29 Thu 0\n"),
         of(4_838, Skip, b"1993-03-31 Wed 2\n00:01-00:01 R\n00:02-00:02 S\n"),
         of(4_838, Last, b"1993-03-31 Wed 2\n00:01-00:01 R\n00:02-00:02 S\n"),
         of(4_837, Last, b"1993-03-30 Tue 0\n"),
         of(4_899, Skip, b"1993-05-31 Mon 1\n00:03-00:03 T\n"),
         of(4_807, Skip, b"1993-02-28 Sun 0\n"),
-        of(4_807, Last, b"1993-02-28 Sun 4\n00:01-00:01 R\n00:02-00:02 S\n23:57-23:59 U\n23:59-23:59 W\n"),
+        of(
+            4_807,
+            Last,
+            b"1993-02-28 Sun 4\n00:01-00:01* R\n00:02-00:02* S\n23:57-23:59* U\n23:59-23:59* W\n",
+        ),
         of(4_442, Skip, b"1992-02-29 Sat 2\n23:57-23:59 U\n23:58-23:59 V\n"),
-        of(4_442, Last, b"1992-02-29 Sat 4\n00:01-00:01 R\n00:02-00:02 S\n23:57-23:59 U\n23:58-23:59 V\n"),
+        of(4_442, Last, b"1992-02-29 Sat 4\n00:01-00:01* R\n00:02-00:02* S\n23:57-23:59 U\n23:58-23:59 V\n"),
         of(4_441, Last, b"1992-02-28 Fri 0\n"),
         of(4_443, Last, b"1992-03-01 Sun 0\n"),
         of(4_808, Last, b"1993-03-01 Mon 0\n"),
+    ]
+}
+
+/// On each 31st from 10:00 to 11:00; the same without a text; with an asterisk as its text; at 9:59.
+const DEP: &[u8] =
+    &[3, 19, 0, 1, 31, 0x02, 0x58, 80, 1, 1, 0x94, 0x02, 199, 12, 31, 5, 3, 0, 0, b'D', b'e', b'p'];
+const BARE: &[u8] = &[3, 16, 0, 0, 31, 0x02, 0x58, 80, 1, 1, 0x94, 0x02, 199, 12, 31, 0, 0, 0, 0];
+const STAR: &[u8] = &[3, 17, 0, 0, 31, 0x02, 0x58, 80, 1, 1, 0x94, 0x02, 199, 12, 31, 0, 1, 0, 0, b'*'];
+const FIRST: &[u8] = &[3, 17, 0, 0, 31, 0x02, 0x57, 80, 1, 1, 0x58, 0x02, 199, 12, 31, 0, 1, 0, 0, b'A'];
+
+/// On each 30th; on 30 April 1993, with an asterisk as its text; on Fridays.
+const OWN: &[u8] =
+    &[3, 19, 0, 0, 30, 0x02, 0x58, 80, 1, 1, 0x94, 0x02, 199, 12, 31, 0, 3, 0, 0, b'O', b'w', b'n'];
+const DATED: &[u8] = &[1, 13, 0, 0, 93, 4, 30, 0x02, 0x58, 0x94, 0x02, 0, 1, 0, 0, b'*'];
+const FRIDAY: &[u8] = &[2, 17, 0, 0, 6, 0x02, 0x58, 80, 1, 1, 0x94, 0x02, 199, 12, 31, 0, 1, 0, 0, b'F'];
+
+/// Document 02, R-7: an asterisk straight after the end, beside lines without it.
+pub fn moved() -> Vec<Shown> {
+    let of =
+        |day, choice, page| shown([DEP, OWN, BARE, DATED, STAR, TO_DO, FRIDAY, FIRST], day, choice, page);
+    vec![
+        shown([DEP], 4_868, Last, b"1993-04-30 Fri 1\n10:00-11:00* Dep\n"),
+        shown([DEP], 4_868, Skip, b"1993-04-30 Fri 0\n"),
+        shown([DEP], 4_899, Last, b"1993-05-31 Mon 1\n10:00-11:00 Dep\n"),
+        shown([BARE], 4_868, Last, b"1993-04-30 Fri 1\n10:00-11:00* \n"),
+        shown([LEAP], 42_428, Last, b"2096-02-29 Wed 1\n23:57-23:59 U\n"),
+        shown([LEAP], 43_523, Last, b"2099-02-28 Sat 1\n23:57-23:59* U\n"),
+        of(
+            4_868,
+            Last,
+            b"1993-04-30 Fri 7\n09:59-10:00* A\n10:00-11:00* Dep\n10:00-11:00 Own\n10:00-11:00* \n\
+              10:00-11:00 *\n10:00-11:00* *\n10:00-11:00 F\n",
+        ),
+        of(4_868, Skip, b"1993-04-30 Fri 3\n10:00-11:00 Own\n10:00-11:00 *\n10:00-11:00 F\n"),
+        of(4_899, Skip, b"1993-05-31 Mon 4\n09:59-10:00 A\n10:00-11:00 Dep\n10:00-11:00 \n10:00-11:00 *\n"),
+        of(4_899, Last, b"1993-05-31 Mon 4\n09:59-10:00 A\n10:00-11:00 Dep\n10:00-11:00 \n10:00-11:00 *\n"),
+        of(
+            7_364,
+            Last,
+            b"2000-02-29 Tue 5\n09:59-10:00* A\n10:00-11:00* Dep\n10:00-11:00* Own\n10:00-11:00* \n\
+              10:00-11:00* *\n",
+        ),
+        of(
+            43_798,
+            Last,
+            b"2099-11-30 Mon 5\n09:59-10:00* A\n10:00-11:00* Dep\n10:00-11:00 Own\n10:00-11:00* \n\
+              10:00-11:00* *\n",
+        ),
     ]
 }
 
@@ -120,5 +172,8 @@ pub fn whole_case() -> Vec<Shown> {
 }
 
 pub fn all() -> Vec<Shown> {
-    [whole_case(), equal_minutes(), padding(), week_5(), short_months()].into_iter().flatten().collect()
+    [whole_case(), equal_minutes(), padding(), week_5(), short_months(), moved()]
+        .into_iter()
+        .flatten()
+        .collect()
 }

@@ -24,11 +24,12 @@ fn the_whole_case() {
         start: 600,
         end: 660,
         alarm: true,
+        moved: false,
     };
     assert_eq!(proved::page_line(file, 4_822, Skip, 0), line);
     assert_eq!(proved::page_line(file, 4_822, Skip, 1), PageLineAnswer { number: 10, ..Default::default() });
-    assert_eq!(proved::falls_on(file, 0, 4_822, Skip), FallsAnswer { number: 0, place: 0, falls: true });
-    assert_eq!(proved::falls_on(file, 0, 4_821, Last), FallsAnswer { number: 0, place: 0, falls: false });
+    assert_eq!(proved::falls_on(file, 0, 4_822, Skip), FallsAnswer { number: 0, place: 0, falls: 1 });
+    assert_eq!(proved::falls_on(file, 0, 4_821, Last), FallsAnswer { number: 0, place: 0, falls: 0 });
     assert_eq!(proved::next_occurrence(file, 0, 0, Skip), found(4_822, 4_823));
     assert_eq!(proved::next_occurrence(file, 0, 4_822, Skip), found(4_822, 1));
     assert_eq!(proved::next_occurrence(file, 0, 4_823, Skip), none(39_007));
@@ -36,7 +37,7 @@ fn the_whole_case() {
     are_shown(pages::whole_case());
 }
 
-fn are_shown(all: Vec<Shown>) {
+pub fn are_shown(all: Vec<Shown>) {
     for Shown { book, day, choice, page } in all {
         println!("page of {day}, {choice:?}, of {book:?}");
         prints(&book, day, choice, page);
@@ -70,7 +71,7 @@ fn short_months() {
 }
 
 /// A book of one record with these values.
-fn single(kind: u8, values: &[(Field, &[u8])]) -> Vec<u8> {
+pub fn single(kind: u8, values: &[(Field, &[u8])]) -> Vec<u8> {
     let mut draft = small(kind, &mut Rng::new(1));
     for (field, value) in values {
         draft.put(*field, value);

@@ -2,11 +2,12 @@
 //! the buffer and around it after a page is printed.
 
 mod by_hand;
+mod moved;
 mod random;
 
-use apptbook::raw::pages::{self as proved, CountAnswer, OccurrenceAnswer};
+use apptbook::raw::pages::{self as proved, CountAnswer, OccurrenceAnswer, FALLS_MOVED, FALLS_ON_ITS_DAY};
 use reference::answers::IntoAnswer;
-use reference::pages::{self as plain, ShortMonth, CHOICES};
+use reference::pages::{self as plain, Line, ShortMonth, CHOICES};
 use reference::printed;
 use reference::refusal::{Refusal, NO_ROOM, NO_SUCH_NUMBER};
 use reference::writings::{pattern, MARGIN};
@@ -76,21 +77,23 @@ fn is_refused_day(file: &[u8], day: u16, refusal: Refusal) {
     }
 }
 
-/// Everything about the page of a day. `asked`: which of its lines.
-fn compare_page(file: &[u8], day: u16, choice: ShortMonth, asked: impl Fn(usize) -> bool) -> usize {
+/// Everything about the page of a day, whose lines it gives. `asked`: which of them.
+fn compare_page(file: &[u8], day: u16, choice: ShortMonth, asked: impl Fn(usize) -> bool) -> Vec<Line> {
     let lines = plain::page(file, day, choice).expect("a right book and day");
     assert_eq!(proved::page_lines(file, day, choice), count(lines.len()));
     for (number, line) in lines.iter().enumerate() {
         if asked(number) || number + 1 == lines.len() {
             let answer = proved::page_line(file, day, choice, number);
             assert_eq!(answer, Ok(line.clone()).answer(), "line {number}");
+            let falls = if answer.moved { FALLS_MOVED } else { FALLS_ON_ITS_DAY };
+            assert_eq!(proved::falls_on(file, line.record, day, choice).falls, falls, "line {number}");
         }
     }
     for number in [lines.len(), lines.len() + 1, usize::MAX] {
         assert_eq!(proved::page_line(file, day, choice, number), Err(NO_SUCH_NUMBER).answer());
     }
     prints(file, day, choice, &printed::printed_page(file, day, choice).expect("a right book and day"));
-    lines.len()
+    lines
 }
 
 /// Everything about a record and a day.

@@ -17,7 +17,7 @@ use reference::rng::Rng;
 #[test]
 fn books_near_a_day() {
     let mut rng = Rng::for_test("books_near_a_day");
-    let mut counts = [0; 6];
+    let (mut counts, mut moved) = ([0; 6], 0);
     for _ in 0..3_000 {
         let day = edge_day(&mut rng);
         let records = rng.within(0..=16);
@@ -26,7 +26,9 @@ fn books_near_a_day() {
         let part = &lent[1..=file.len()];
         for day in [day, day.saturating_sub(1), (day + 1).min(LAST_DAY)] {
             for choice in CHOICES {
-                counts[compare_page(part, day, choice, |_| true).min(5)] += 1;
+                let lines = compare_page(part, day, choice, |_| true);
+                counts[lines.len().min(5)] += 1;
+                moved += lines.iter().filter(|line| line.moved).count();
             }
         }
         for record in 0..=records {
@@ -34,8 +36,8 @@ fn books_near_a_day() {
         }
         assert!(lent == [&[0xFF], &file[..], &[6, 11, 0, 0, 1, 93, 3, 15]].concat(), "changed");
     }
-    println!("pages by number of lines, up to 5 and more: {counts:?}");
-    assert!(counts.iter().all(|&count| count >= 500), "{counts:?}");
+    println!("pages by number of lines, up to 5 and more: {counts:?}; moved lines: {moved}");
+    assert!(counts.iter().all(|&count| count >= 500) && moved >= 250, "{counts:?}, {moved}");
 }
 
 /// Right and damaged ones, and any day, also those that are none.
@@ -95,7 +97,7 @@ fn searches_go_from_day_to_day() {
         let file = File::random(&[Draft::random(kind, &mut rng)], &mut rng).bytes;
         let entry = book::record(&file, 0).expect("a record").entry;
         for choice in CHOICES {
-            let days = occurrences(&entry, choice);
+            let days: Vec<u16> = occurrences(&entry, choice).iter().map(|showing| showing.day).collect();
             let mut asked = 0;
             for &day in days.iter().take(300) {
                 let expected = found(day, u32::from(day - asked) + 1);
@@ -118,7 +120,7 @@ fn the_longest_books() {
     for kind in 1..=6 {
         for minutes in [1, 5, 1_440] {
             let file = File::full(65_535, || on_a_day(kind, minutes, &mut rng)).bytes;
-            let lines = compare_page(&file, 4_822, Skip, |line| line % 41 == 0);
+            let lines = compare_page(&file, 4_822, Skip, |line| line % 41 == 0).len();
             assert_eq!(lines >= 2_500, kind != 6, "{lines} lines");
             compare_page(&file, 4_823, Last, |_| true);
             is_refused_day(&[&file[..], &[0]].concat(), 4_822, Refusal { number: 1, place: 0 });
@@ -139,7 +141,7 @@ fn every_number_of_records() {
             let drafts: Vec<Draft> =
                 (0..records).map(|_| on_a_day(rng.within(1..=5) as u8, minutes, &mut rng)).collect();
             let file = File::random(&drafts, &mut rng).bytes;
-            assert_eq!(compare_page(&file, 4_822, Skip, |_| true), records);
+            assert_eq!(compare_page(&file, 4_822, Skip, |_| true).len(), records);
         }
     }
 }
@@ -153,7 +155,7 @@ fn the_most_records() {
         let drafts: Vec<Draft> = (0..records).map(bare).collect();
         let file = File::new([0, 0, 1, 0, 0, 0, 0], &drafts).bytes;
         assert_eq!(file.len(), 65_535);
-        assert_eq!(compare_page(&file, 4_822, Last, |line| line % 97 == 0), lines);
+        assert_eq!(compare_page(&file, 4_822, Last, |line| line % 97 == 0).len(), lines);
         for record in [0, records - 1, records] {
             compare_record(&file, record, 4_000, Skip);
         }

@@ -8,6 +8,7 @@ use reference::rng::Rng;
 use reference::vectors::calendars::whole_case;
 use reference::vectors::commands::{EXPORTS, FILLED_BOOKS, PAGES, REFUSALS};
 use reference::vectors::fillers::{filled, fillers};
+use reference::vectors::moved;
 use reference::vectors::{every_kind, WHOLE_CASE};
 use std::ffi::OsStr;
 use std::process::Command;
@@ -38,6 +39,15 @@ fn long_books() {
         assert_eq!(compare(&[], &input), b"1 0\n", "{more} more");
     }
     assert_eq!(compare(&words([b"4822", b"last"]), &vec![0; 3_000_000]), b"1 0\n");
+}
+
+/// Every line is moved, and the page is printed whole.
+#[test]
+fn full_pages_of_moved_lines() {
+    for (book, page) in moved::full_pages() {
+        assert!(run(&words([b"4868", b"last"]), &book) == page, "not the {} bytes", page.len());
+        assert_eq!(run(&words([b"4868", b"skip"]), &book), b"1993-04-30 Fri 0\n");
+    }
 }
 
 /// Filled up to a block of 128 bytes, as it comes over a modem.

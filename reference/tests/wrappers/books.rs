@@ -4,7 +4,7 @@ use super::{same, same_buffer};
 use apptbook::raw::book::{self as raw_book, BookAnswer, RecordAnswer};
 use apptbook::raw::export as raw_export;
 use apptbook::raw::pages as raw;
-use apptbook::{Book, Date, Entry, Occurrence, PageLine, Record, Rule, Settings, Times};
+use apptbook::{Book, Date, Entry, Falls, Occurrence, PageLine, Record, Rule, Settings, Times};
 use reference::answers::entry_of;
 use reference::fuzz::{numbers, Tally};
 use reference::pages::ShortMonth;
@@ -81,7 +81,9 @@ fn showing(tally: &mut Tally, file: &[u8], record: usize, day: u16, choice: Shor
     tally.add("default_last", 0);
     assert_eq!(ShortMonth::default() == ShortMonth::Last, raw::default_last());
     let by_raw = raw::falls_on(file, record, day, choice);
-    same!(tally, "falls_on", apptbook::falls_on(file, record, day, choice), by_raw, answer => answer.falls);
+    same!(tally, "falls_on", apptbook::falls_on(file, record, day, choice), by_raw, answer => {
+        [Falls::Not, Falls::OnItsDay, Falls::Moved][usize::from(answer.falls)]
+    });
     let next = apptbook::next_occurrence(file, record, day, choice);
     same!(tally, "next_occurrence", next, raw::next_occurrence(file, record, day, choice), answer => {
         Occurrence { day: if answer.found { Some(answer.day) } else { None }, looked: answer.looked }
@@ -98,6 +100,7 @@ fn showing(tally: &mut Tally, file: &[u8], record: usize, day: u16, choice: Shor
         start: answer.start,
         end: answer.end,
         alarm: answer.alarm,
+        moved: answer.moved,
     });
     assert!(line.is_err() || ptr::eq(line.unwrap().text, text), "the text's place");
 }

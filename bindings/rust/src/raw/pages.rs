@@ -66,12 +66,17 @@ pub fn print_page(file: &[u8], day: u16, choice: ShortMonth, buffer: &mut [u8]) 
     unsafe { apptbook_print_page(file.as_ptr(), file.len(), day, choice.is_last(), at, len) }
 }
 
+// Whether a record falls on a day.
+pub const FALLS_NOT: u16 = 0;
+pub const FALLS_ON_ITS_DAY: u16 = 1;
+pub const FALLS_MOVED: u16 = 2;
+
 #[repr(C)]
 #[derive(Clone, Copy, Debug, Default, PartialEq, Eq)]
 pub struct FallsAnswer {
     pub number: u32,
     pub place: usize,
-    pub falls: bool,
+    pub falls: u16,
 }
 
 /// Of lines, days or appointments, or of bytes written.
@@ -94,6 +99,7 @@ pub struct PageLineAnswer {
     pub start: u16,
     pub end: u16,
     pub alarm: bool,
+    pub moved: bool,
 }
 
 #[repr(C)]

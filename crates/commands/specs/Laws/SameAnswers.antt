@@ -66,7 +66,7 @@ module _ (f g : List ℕ) (s : SameBook f g) where
         lines = λ d shows. on-day d (pageCountIn shows g) (pageCountIn shows f) (λ a. rw (page-same f g s (shows (a .facts)))) (λ e. refl);
         line = λ d shows k. on-day d (pageLineIn shows g k) (pageLineIn shows f k) (λ a. rw (page-same f g s (shows (a .facts)))) (λ e. refl);
         line-text =
-            λ d shows k. on-day d (λ v. lineText g (pageLineIn shows g k v)) (λ v. lineText f (pageLineIn shows f k v)) (λ a. line-text-same f g s (shows (a .facts)) k _ refl) (λ e. refl);
+            λ d shows k. on-day d (λ v. lineText g (pageLineIn shows g k v)) (λ v. lineText f (pageLineIn shows f k v)) (λ a. line-text-same f g s (shows (a .facts)) (a .facts) k _ refl) (λ e. refl);
         print-length = λ d shows. on-day d (pageLengthIn shows g) (pageLengthIn shows f) (λ a. rw (page-text-same f g s shows (a .facts))) (λ e. refl);
         print = λ d shows room. on-day d (printIn shows g room) (printIn shows f room) (λ a. rw (page-text-same f g s shows (a .facts))) (λ e. refl);
         printed = λ d shows out. on-day d (printLeaves shows g out) (printLeaves shows f out) (λ a. rw (page-text-same f g s shows (a .facts))) (λ e. refl);

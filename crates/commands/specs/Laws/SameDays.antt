@@ -37,17 +37,17 @@ Texts f g xs = (x : Numbered) → List·Memᴰ x xs → recordText g x ≡ recor
 rest : {f g : List ℕ} {x : Numbered} {xs : List Numbered} → Texts f g (x ∷ xs) → Texts f g xs
 rest t y i = t y (List·Memᴰ·tail i)
 
-line-along : (f g : List ℕ) (xs : List Numbered) → Texts f g xs → (k : ℕ) (none : LineAnswer) → lineText g none ≡ lineText f none
-    → lineText g (nth xs k none (λ x. LineAnswer.Line (pageLineOf x))) ≡ lineText f (nth xs k none (λ x. LineAnswer.Line (pageLineOf x)))
+line-along : (f g : List ℕ) (d : DayFacts) (xs : List Numbered) → Texts f g xs → (k : ℕ) (none : LineAnswer) → lineText g none ≡ lineText f none
+    → lineText g (nth xs k none (λ x. LineAnswer.Line (pageLineOf d x))) ≡ lineText f (nth xs k none (λ x. LineAnswer.Line (pageLineOf d x)))
 unfolding nth lineText pageLineOf
-line-along f g [] t k none e = e
-line-along f g (x ∷ xs) t zero none e = t x (List·Memᴰ·head refl)
-line-along f g (x ∷ xs) t (suc k) none e = line-along f g xs (rest t) k none e
+line-along f g d [] t k none e = e
+line-along f g d (x ∷ xs) t zero none e = t x (List·Memᴰ·head refl)
+line-along f g d (x ∷ xs) t (suc k) none e = line-along f g d xs (rest t) k none e
 
-lines-along : (f g : List ℕ) (xs : List Numbered) → Texts f g xs → pageLines g (map pageLineOf xs) ≡ pageLines f (map pageLineOf xs)
+lines-along : (f g : List ℕ) (d : DayFacts) (xs : List Numbered) → Texts f g xs → pageLines g (map (pageLineOf d) xs) ≡ pageLines f (map (pageLineOf d) xs)
 unfolding pageLines pageLine pageLineOf
-lines-along f g [] t = refl
-lines-along f g (x ∷ xs) t = rw (t x (List·Memᴰ·head refl), lines-along f g xs (rest t))
+lines-along f g d [] t = refl
+lines-along f g d (x ∷ xs) t = rw (t x (List·Memᴰ·head refl), lines-along f g d xs (rest t))
 
 days-along : (l m : ℕ → List Appointment) → ((d : ℕ) → l d ≡ m d) → (count first : ℕ) → daysWith l count first ≡ daysWith m count first
 unfolding daysWith
@@ -73,13 +73,13 @@ module _ (f g : List ℕ) (s : SameBook f g) where
   unfolding validated
   validated-same d = ap (validatedDay d) (s .book)
 
-  pub line-text-same : (p : Numbered → Bool) (k : ℕ) (none : LineAnswer) → lineText g none ≡ lineText f none
-      → lineText g (nth (pageOf p g) k none (λ x. LineAnswer.Line (pageLineOf x))) ≡ lineText f (nth (pageOf p f) k none (λ x. LineAnswer.Line (pageLineOf x)))
-  line-text-same p k none e = rw (page-same p) (line-along f g (pageOf p f) (page-texts p) k none e)
+  pub line-text-same : (p : Numbered → Bool) (d : DayFacts) (k : ℕ) (none : LineAnswer) → lineText g none ≡ lineText f none
+      → lineText g (nth (pageOf p g) k none (λ x. LineAnswer.Line (pageLineOf d x))) ≡ lineText f (nth (pageOf p f) k none (λ x. LineAnswer.Line (pageLineOf d x)))
+  line-text-same p d k none e = rw (page-same p) (line-along f g d (pageOf p f) (page-texts p) k none e)
 
   pub page-text-same : (shows : DayFacts → Numbered → Bool) (d : DayFacts) → pageText shows g d ≡ pageText shows f d
   unfolding pageText printed
-  page-text-same shows d = rw (page-same (shows d), lines-along f g (pageOf (shows d) f) (page-texts (shows d)))
+  page-text-same shows d = rw (page-same (shows d), lines-along f g d (pageOf (shows d) f) (page-texts (shows d)))
 
   appointments-same : (shows : ℕ → Numbered → Bool) (i d : ℕ) → appointmentsFor shows g i d ≡ appointmentsFor shows f i d
   unfolding appointmentsFor appointmentOf

@@ -1,4 +1,4 @@
--- Slips that look right, document 01 and the readings: what the rules say of single days. And what request R-3 expects of one.
+-- Slips that look right, document 01 and the readings: what the rules say of single days. And what requests R-3 and R-7 expect of one.
 -- Assumes nothing.
 use Prim.Native.Nat.{ℕ}
 use mathlib.Core.Path.{_≡_, refl}
@@ -10,7 +10,9 @@ use Rattle.days.specs.declared.types.DayFacts.{DayFacts}
 use Rattle.records.specs.declared.types.Repeat.{Repeat}
 use Rattle.records.specs.declared.types.Record.{Record}
 use Rattle.falls.specs.Falls.{defaultChoice, inSpan, byPositionFalls, onMissingDay, onDay, byDateFalls, falls}
+use Rattle.falls.specs.Moved.{namedDay, dayMissing, falling}
 use Rattle.falls.specs.declared.types.ShortMonth.{ShortMonth}
+use Rattle.falls.specs.declared.types.Falling.{Falling}
 
 abbrev on : ℕ → ℕ → ℕ → Date
 on y m d = record { year = y; month = m; day = d }
@@ -47,3 +49,11 @@ short-month = (refl, refl, refl, refl)
 default-shows : falls defaultChoice april30 (on31 (on 2099 12 31)) ≡ true
 unfolding defaultChoice falls byDateFalls onDay onMissingDay inSpan before ifLt ifEq ifB
 default-shows = refl
+
+abbrev on30 : Record
+on30 = Record.MonthlyByDate (record { day = 30; repeat = until (on 2099 12 31) })
+
+-- R-7: "A sitting shown on the 30th because of "last" surprises people." That of the 30th itself is on its own day.
+pub shown-on-30 : (falling ShortMonth.Last april30 (on31 (on 2099 12 31)) ≡ Falling.Moved) × (falling ShortMonth.Skip april30 (on31 (on 2099 12 31)) ≡ Falling.No) × (falling ShortMonth.Last april30 on30 ≡ Falling.Own)
+unfolding falling namedDay dayMissing falls byDateFalls onDay onMissingDay inSpan before ifLt ifEq ifB
+shown-on-30 = (refl, refl, refl)

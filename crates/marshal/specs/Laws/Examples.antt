@@ -10,8 +10,11 @@ use Rattle.records.specs.Laws.Layouts.{weeklyRecord, monthlyByDateRecord, month
 use Rattle.book.specs.Books.{bookOf, recordAnswer}
 use Rattle.book.specs.Laws.Examples.{case, case-accepted, case-record}
 use Rattle.book.specs.declared.types.Entry.{Entry}
+use Rattle.falls.specs.declared.types.Falling.{Falling}
+use Rattle.pages.specs.declared.types.FallsAnswer.{FallsAnswer}
 use Rattle.marshal.specs.BookAnswers.{bookOut}
 use Rattle.marshal.specs.DayAnswers.{factsOut}
+use Rattle.marshal.specs.PageAnswers.{fallingOut, fallsOut}
 use Rattle.marshal.specs.RecordAnswers.{recordWith, datedOut, repeatOut, toDoOut, checkedOut, kindOut, recordOut}
 use Rattle.marshal.specs.declared.record_answers.RecordOut.{RecordOut}
 
@@ -54,6 +57,12 @@ case-record-out = rw case-record (refl, refl, refl, refl)
 pub case-places-out : places (recordOut (recordAnswer case 0)) ≡ 0 ∷ 0 ∷ 12 ∷ 27 ∷ 3 ∷ 30 ∷ 0 ∷ []
 unfolding recordOut kindOut datedOut recordWith
 case-places-out = rw case-record
+
+-- the header's numbers: not, on its own day, moved
+pub falls-out :
+    (fallsOut (FallsAnswer.Falls Falling.No) ≡ record { number = 0; place = 0; falls = 0 }) × (fallsOut (FallsAnswer.Falls Falling.Own) ≡ record { number = 0; place = 0; falls = 1 }) × (fallsOut (FallsAnswer.Falls Falling.Moved) ≡ record { number = 0; place = 0; falls = 2 })
+unfolding fallsOut fallingOut
+falls-out = (refl, refl, refl)
 
 module _ (e : Entry) where
   -- Tuesdays

@@ -1,4 +1,4 @@
-//! Day pages and the next occurrence, with the choice skip; and the choice of a caller who names none.
+//! Day pages and the next occurrence, most of them with the choice skip; and the choice of a caller who names none.
 
 use super::{again, hidden, kept, row, Cells, Row, Run};
 use apptbook::raw::pages as proved;
@@ -6,7 +6,7 @@ use reference::book::{self, LONGEST};
 use reference::books::{book_near, small, Field, File};
 use reference::days::LAST_DAY;
 use reference::occurrences::soonest;
-use reference::pages::ShortMonth::{Last, Skip};
+use reference::pages::ShortMonth::{self, Last, Skip};
 use reference::pages::{self as plain, Search};
 use reference::printed;
 use reference::refusal::Refusal;
@@ -15,6 +15,17 @@ use std::cell::RefCell;
 
 const CALLS: usize = 20;
 const DAY: u16 = 4_822;
+/// To which records of the 31st are moved.
+const APRIL_30: u16 = 4_868;
+
+/// Of a row about that day.
+const fn choice(day: u16) -> ShortMonth {
+    if day == APRIL_30 {
+        Last
+    } else {
+        Skip
+    }
+}
 
 type Book = fn() -> &'static [u8];
 
@@ -34,17 +45,27 @@ fn full_book() -> &'static [u8] {
     kept(File::full(LONGEST, || small(rng.within(1..=6) as u8, &mut rng)).bytes)
 }
 
-/// Of 65,535 bytes: small dated records, all on the same day, at any minutes.
-fn one_day() -> &'static [u8] {
+/// Of 65,535 bytes: small records of one kind with these values, at any minutes.
+fn full_of(kind: u8, values: &[(Field, &[u8])]) -> &'static [u8] {
     let mut rng = Rng::new(1);
     let record = || {
-        let mut draft = small(1, &mut rng);
+        let mut draft = small(kind, &mut rng);
         let start = rng.within(0..=1_439) as u16;
         draft.put(Field::Times, [start.to_be_bytes(), 1_439u16.to_le_bytes()].concat());
-        draft.put(Field::Date, [93, 3, 15]);
+        values.iter().for_each(|(field, value)| draft.put(*field, value));
         draft
     };
     kept(File::full(LONGEST, record).bytes)
+}
+
+/// Dated ones, all on the same day.
+fn one_day() -> &'static [u8] {
+    full_of(1, &[(Field::Date, &[93, 3, 15])])
+}
+
+/// Of each 31st.
+fn all_moved() -> &'static [u8] {
+    full_of(3, &[(Field::Day, &[31]), (Field::Dates, &[80, 1, 1, 199, 12, 31])])
 }
 
 /// A book of one record with this value.
@@ -72,24 +93,24 @@ fn by_record(file: &[u8]) -> Option<(usize, &'static str)> {
     Some((records(file), "record"))
 }
 
-fn printing(case: &'static str, book: Book) -> Row {
+fn printing<const ON: u16>(case: &'static str, book: Book) -> Row {
     row("print_page", case, CALLS, move || {
         let file = book();
         let lent = |print: fn(&[u8], &mut [u8]) -> usize| -> Option<Run> {
             let buffer = RefCell::new(vec![0; LONGEST]);
             again(file, move |file| print(file, &mut buffer.borrow_mut()))
         };
-        let by_proved = lent(|file, buffer| proved::print_page(file, DAY, Skip, buffer).count);
-        let by_plain = lent(|file, buffer| printed::print_page(file, DAY, Skip, buffer).expect("room"));
+        let by_proved = lent(|file, buffer| proved::print_page(file, ON, choice(ON), buffer).count);
+        let by_plain = lent(|file, buffer| printed::print_page(file, ON, choice(ON), buffer).expect("room"));
         Cells { runs: [by_proved, by_plain, None], size: by_record(file) }
     })
 }
 
-fn length(case: &'static str, book: Book) -> Row {
+fn length<const ON: u16>(case: &'static str, book: Book) -> Row {
     row("page_length", case, CALLS, move || {
         let file = book();
-        let by_plain = hidden(|file| printed::page_length(file, DAY, Skip));
-        let by_proved = again(file, |file| proved::page_length(file, DAY, Skip));
+        let by_plain = hidden(|file| printed::page_length(file, ON, choice(ON)));
+        let by_proved = again(file, |file| proved::page_length(file, ON, choice(ON)));
         Cells { runs: [by_proved, again(file, by_plain), None], size: by_record(file) }
     })
 }
@@ -103,24 +124,24 @@ fn counting(case: &'static str, book: Book) -> Row {
     })
 }
 
-fn last_line(case: &'static str, book: Book) -> Row {
+fn last_line<const ON: u16>(case: &'static str, book: Book) -> Row {
     row("page_line", case, CALLS, move || {
         let file = book();
-        let lines = plain::page_lines(file, DAY, Skip).expect("a right book");
-        let asked: Asked = (file, lines - 1, DAY);
-        let by_plain = hidden(|(file, line, day): Asked| plain::page_line(file, day, Skip, line));
-        let by_proved = again(asked, |(file, line, day)| proved::page_line(file, day, Skip, line));
+        let lines = plain::page_lines(file, ON, choice(ON)).expect("a right book");
+        let asked: Asked = (file, lines - 1, ON);
+        let by_plain = hidden(|(file, line, day): Asked| plain::page_line(file, day, choice(ON), line));
+        let by_proved = again(asked, |(file, line, day)| proved::page_line(file, day, choice(ON), line));
         Cells { runs: [by_proved, again(asked, by_plain), None], size: by_record(file) }
     })
 }
 
 /// For the book's last record.
-fn falling(case: &'static str, book: Book) -> Row {
+fn falling<const ON: u16>(case: &'static str, book: Book) -> Row {
     row("falls_on", case, CALLS, move || {
         let file = book();
-        let asked: Asked = (file, records(file) - 1, DAY);
-        let by_plain = hidden(|(file, record, day): Asked| plain::falls_on(file, record, day, Skip));
-        let by_proved = again(asked, |(file, record, day)| proved::falls_on(file, record, day, Skip));
+        let asked: Asked = (file, records(file) - 1, ON);
+        let by_plain = hidden(|(file, record, day): Asked| plain::falls_on(file, record, day, choice(ON)));
+        let by_proved = again(asked, |(file, record, day)| proved::falls_on(file, record, day, choice(ON)));
         Cells { runs: [by_proved, again(asked, by_plain), None], size: by_record(file) }
     })
 }
@@ -156,22 +177,26 @@ fn default_choice() -> Row {
 pub fn rows() -> Vec<Row> {
     vec![
         default_choice(),
-        falling("12 records", small_book),
-        falling("full, all kinds", full_book),
+        falling::<DAY>("12 records", small_book),
+        falling::<DAY>("full, all kinds", full_book),
+        falling::<APRIL_30>("full, all moved", all_moved),
         searching("weekly and ended", ended, 1),
         searching("29 February 2096", leap_day, 0),
         searching("full, all kinds", full_book, DAY),
         counting("12 records", small_book),
         counting("full, all kinds", full_book),
         counting("full, all on the day", one_day),
-        last_line("12 records", small_book),
-        last_line("full, all kinds", full_book),
-        last_line("full, all on the day", one_day),
-        length("12 records", small_book),
-        length("full, all kinds", full_book),
-        length("full, all on the day", one_day),
-        printing("12 records", small_book),
-        printing("full, all kinds", full_book),
-        printing("full, all on the day", one_day),
+        last_line::<DAY>("12 records", small_book),
+        last_line::<DAY>("full, all kinds", full_book),
+        last_line::<DAY>("full, all on the day", one_day),
+        last_line::<APRIL_30>("full, all moved", all_moved),
+        length::<DAY>("12 records", small_book),
+        length::<DAY>("full, all kinds", full_book),
+        length::<DAY>("full, all on the day", one_day),
+        length::<APRIL_30>("full, all moved", all_moved),
+        printing::<DAY>("12 records", small_book),
+        printing::<DAY>("full, all kinds", full_book),
+        printing::<DAY>("full, all on the day", one_day),
+        printing::<APRIL_30>("full, all moved", all_moved),
     ]
 }

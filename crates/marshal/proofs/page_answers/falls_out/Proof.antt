@@ -8,6 +8,9 @@ use Rattle.marshal.proofs.page_answers.falls_out.Tie as tie
 enum-known-a : tie.Need-enum-known-a
 enum-known-a c = search needs
 
+falling-out-requires : tie.Need-falling-out-requires
+falling-out-requires c κs = search needs
+
 enum-known-a-2 : tie.Need-enum-known-a-2
 enum-known-a-2 c = search needs
 
@@ -20,4 +23,4 @@ unfolding fallsOut
 returns-2 c = cc
 
 pub falls-out-spec : {M : Type 1} → statement M
-falls-out-spec = tie.close (tie.spec enum-known-a enum-known-a-2 returns returns-2)
+falls-out-spec = tie.close (tie.spec enum-known-a falling-out-requires enum-known-a-2 returns returns-2)

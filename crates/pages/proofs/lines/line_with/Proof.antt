@@ -31,7 +31,7 @@ returns : tie.Need-returns
 unfolding pageLineIn
 returns c =
     let k = c .before .before .before .before .before .before .before in
-    let a = k .before .before .before .before .before .before in
+    let a = k .before .before .before .before .before .before .before in
     ap LineAnswer.Line (c .line-of .ensures) ∙ sym (nth-code _ (a .pre .0 .long) (a .pre .0 .size) _ (k .page-codes .last .1 .1 .1 .0) (k .page-codes .result) (omega arith) (k .page-codes .ensures .1 .0) _ _ _ (omega arith))
 
 same-length-3 : tie.Need-same-length-3
@@ -44,7 +44,7 @@ returns-2 : tie.Need-returns-2
 unfolding pageLineIn
 returns-2 c =
     let k = c .before .before .before .before .before in
-    let a = k .before .before .before .before .before .before in
+    let a = k .before .before .before .before .before .before .before in
     sym (nth-no-code _ (a .pre .0 .long) (a .pre .0 .size) _ (k .page-codes .last .1 .1 .1 .0) (k .page-codes .result) (omega arith) (k .page-codes .ensures .1 .0) _ _ _ (omega arith))
 
 pub line-with-spec : {M : Type 1} → statement M

@@ -14,14 +14,17 @@ body-from-requires c κs = search needs
 times-of-requires : tie.Need-times-of-requires
 times-of-requires c κs = search needs
 
+named-day-requires : tie.Need-named-day-requires
+named-day-requires c κs = search needs
+
 text-in-requires : tie.Need-text-in-requires
 text-in-requires c κs = search needs
 
 returns : tie.Need-returns
 unfolding entryAt
-returns c = (cc, cc)
+returns c = (cc, (cc, cc))
 
 pub listed-at-spec : {M : Type 1} → statement M
 listed-at-spec =
     tie.close
-    (tie.spec byte-requires body-from-requires times-of-requires text-in-requires returns)
+    (tie.spec byte-requires body-from-requires times-of-requires named-day-requires text-in-requires returns)

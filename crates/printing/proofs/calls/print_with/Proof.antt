@@ -6,7 +6,7 @@ use lib.ListN.{take}
 use lib.Seq.{length-take-le}
 use Rattle.printing.specs.Printed.{pageText}
 use Rattle.printing.specs.Coded.{codedText}
-use Rattle.printing.specs.Laws.Printed.{page-of-codes}
+use Rattle.printing.specs.Laws.Printed.{page-of-codes, page-codes-of}
 use Rattle.printing.specs.Laws.Sizes.{page-most}
 use Rattle.printing.specs.Answers.{printIn, printLeaves}
 use borrow.Author.Needs.{needs}
@@ -32,7 +32,8 @@ print-codes-requires : tie.Need-print-codes-requires
 print-codes-requires c κs =
     let k = c .before .before .before .before .before .before .before in
     let s = k .before .before .before .before .before .before .before in
-    rw (page k) at (page-most (fallsOn (s .args .c)) (s .args .file .now) (s .args .a) (s .pre .0))
+    let f = s .args .file .now in
+    (rw (page k) at (page-most (fallsOn (s .args .c)) f (s .args .a) (s .pre .0)), page-codes-of (fallsOn (s .args .c) (s .args .a .facts)) f (s .args .a) (k .page-codes .result) (k .page-codes .last .1 .1 .1 .0) (s .pre .0) (k .page-codes .ensures .1 .0))
 
 same-length : tie.Need-same-length
 same-length c = search needs

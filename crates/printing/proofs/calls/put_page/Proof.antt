@@ -11,11 +11,11 @@ use Rattle.printing.proofs.calls.put_page.Statement.{statement}
 use Rattle.printing.proofs.calls.put_page.Tie as tie
 
 -- before the head
-g0 : (s : tie.Start) → let a = s .args in Grown (a .out .now) 0 (codedText (a .file .now) (a .f) (a .codes .now)) (a .out .now) 0 (headLine (a .f) (length (a .codes .now)) ++ pageLines (a .file .now) (codedLines (a .file .now) (a .codes .now)))
+g0 : (s : tie.Start) → let a = s .args in Grown (a .out .now) 0 (codedText (a .file .now) (a .f) (a .codes .now)) (a .out .now) 0 (headLine (a .f) (length (a .codes .now)) ++ pageLines (a .file .now) (codedLines (a .file .now) (a .f) (a .codes .now)))
 g0 s = grown-rest-equal (coded-parts _ _ _) (grown-start (s .pre))
 
 -- behind it
-g1 : (c : tie.After-put-head) → let a = c .before .before .before .before .before .args in Grown (a .out .now) 0 (codedText (a .file .now) (a .f) (a .codes .now)) (c .put-head .last .0) (c .put-head .result) (pageLines (a .file .now) (codedLines (a .file .now) (a .codes .now)))
+g1 : (c : tie.After-put-head) → let a = c .before .before .before .before .before .args in Grown (a .out .now) 0 (codedText (a .file .now) (a .f) (a .codes .now)) (c .put-head .last .0) (c .put-head .result) (pageLines (a .file .now) (codedLines (a .file .now) (a .f) (a .codes .now)))
 g1 c = grown-more _ (g0 (c .before .before .before .before .before)) (c .put-head .ensures .0) (c .put-head .ensures .1)
 
 put-head-requires : tie.Need-put-head-requires

@@ -12,10 +12,10 @@ use Rattle.printing.proofs.measures.coded_size.Statement.{statement}
 use Rattle.printing.proofs.measures.coded_size.Tie as tie
 
 -- the sum, and its bound
-sum : (c : tie.After-decimal-length) → let a = c .before .before .before .args in (16 + c .decimal-length .result + length (pageLines (a .file .now) (codedLines (a .file .now) (a .codes .now))) ≡ length (codedText (a .file .now) (a .f) (a .codes .now))) × (length (codedText (a .file .now) (a .f) (a .codes .now)) ≤ 65535)
+sum : (c : tie.After-decimal-length) → let a = c .before .before .before .args in (16 + c .decimal-length .result + length (pageLines (a .file .now) (codedLines (a .file .now) (a .f) (a .codes .now))) ≡ length (codedText (a .file .now) (a .f) (a .codes .now))) × (length (codedText (a .file .now) (a .f) (a .codes .now)) ≤ 65535)
 sum c =
     let s = c .before .before .before in
-    (omega (arith, c .decimal-length .ensures, length-coded (s .args .file .now) (s .args .f) (s .args .codes .now)), s .pre)
+    (omega (arith, c .decimal-length .ensures, length-coded (s .args .file .now) (s .args .f) (s .args .codes .now)), s .pre .0)
 
 decimal-length-requires : tie.Need-decimal-length-requires
 decimal-length-requires c κs = search needs
@@ -24,7 +24,7 @@ add-result : tie.Need-add-result
 add-result c = let s = sum c in omega arith
 
 lines-size-requires : tie.Need-lines-size-requires
-lines-size-requires c κs = let s = sum c in omega arith
+lines-size-requires c κs = let s = sum c in (omega arith, c .before .before .before .pre .1)
 
 add-result-2 : tie.Need-add-result-2
 add-result-2 c = let s = sum (c .before) in omega arith

@@ -13,18 +13,18 @@ use Rattle.printing.proofs.measures.lines_size.Statement.{statement}
 use Rattle.printing.proofs.measures.lines_size.Tie as tie
 
 abbrev Inv-loop : tie.InvT-loop
-Inv-loop file codes bytes₀ i₀ bytes i =
-    (i ≤ length codes) × (length (pageLines file (codedLines file codes)) ≡ bytes + length (pageLines file (codedLines file (drop i codes))))
+Inv-loop file f codes bytes₀ i₀ bytes i =
+    (i ≤ length codes) × (length (pageLines file (codedLines file f codes)) ≡ bytes + length (pageLines file (codedLines file f (drop i codes))))
 
 abbrev μ-loop : tie.MeasureT-loop
-μ-loop file codes bytes₀ i₀ bytes i = length codes - i
+μ-loop file f codes bytes₀ i₀ bytes i = length codes - i
 
 -- one line more
-added : (c : tie.After-line-size Inv-loop μ-loop) → let l = c .before .before .before .before in let a = l .before .before .before .args in length (pageLines (a .file .now) (codedLines (a .file .now) (a .codes .now))) ≡ l .loop .bytes + c .line-size .result + length (pageLines (a .file .now) (codedLines (a .file .now) (drop (l .loop .i + 1) (a .codes .now))))
+added : (c : tie.After-record-size Inv-loop μ-loop) → let l = c .before .before .before .before in let a = l .before .before .before .args in length (pageLines (a .file .now) (codedLines (a .file .now) (a .f) (a .codes .now))) ≡ l .loop .bytes + c .record-size .result + length (pageLines (a .file .now) (codedLines (a .file .now) (a .f) (drop (l .loop .i + 1) (a .codes .now))))
 added c =
     let l = c .before .before .before .before in
     let a = l .before .before .before .args in
-    rw (c .line-size .ensures, c .before .place-in .ensures) (lines-on (a .file .now) (a .codes .now) (l .loop .i) (l .loop .bytes) (omega arith) (l .loop .inv .1))
+    rw (c .record-size .ensures, c .before .place-in .ensures) (lines-on (a .file .now) (a .f) (a .codes .now) (l .loop .i) (l .loop .bytes) (omega arith) (l .loop .inv .1))
 
 loop-holds : tie.Need-loop-holds Inv-loop μ-loop
 loop-holds c = (omega arith, sym (zero-add _))
@@ -38,8 +38,10 @@ shared-slice-read-place-in c = search needs
 place-in-requires : tie.Need-place-in-requires Inv-loop μ-loop
 place-in-requires c κs = search needs
 
-line-size-requires : tie.Need-line-size-requires Inv-loop μ-loop
-line-size-requires c κs = omega arith
+record-size-requires : tie.Need-record-size-requires Inv-loop μ-loop
+record-size-requires c κs =
+    let l = c .before .before .before in
+    rw (c .place-in .ensures) (l .before .before .before .pre .1 .each (l .loop .i) (omega arith))
 
 add-bytes : tie.Need-add-bytes Inv-loop μ-loop
 add-bytes c = let e = added c in omega arith
@@ -57,7 +59,7 @@ returns : tie.Need-returns Inv-loop μ-loop
 returns c =
     let l = c .before in
     let a = l .before .before .before .args in
-    let e = ap length (lines-end (a .file .now) (a .codes .now) (l .loop .i) (omega arith)) in
+    let e = ap length (lines-end (a .file .now) (a .f) (a .codes .now) (l .loop .i) (omega arith)) in
     omega (arith, l .loop .inv .1, e)
 
 pub lines-size-spec : {M : Type 1} → statement M
@@ -70,7 +72,7 @@ lines-size-spec =
     mul-place-in
     shared-slice-read-place-in
     place-in-requires
-    line-size-requires
+    record-size-requires
     add-bytes
     add-i
     loop-less

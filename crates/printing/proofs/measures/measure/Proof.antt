@@ -10,6 +10,7 @@ use native.Mathlib.Numerals.{add-one}
 use lib.ListN.{length}
 use Rattle.sorting.specs.Keep.{keep}
 use Rattle.book.specs.Laws.Books.{Cursor, cursor-first, cursor-ahead}
+use Rattle.days.specs.declared.types.DayFacts.{DayFacts}
 use Rattle.pages.specs.Pages.{Numbered, numbered, fallsOn}
 use Rattle.pages.specs.Laws.Pages.{numberedAt, numbered-first, Turn, numbered-cursor, keep-numbered-yes, keep-numbered-no, keep-numbered-end, length-page}
 use Rattle.pages.specs.Invariants.{recordAt}
@@ -22,7 +23,7 @@ use Rattle.printing.proofs.measures.measure.Tie as tie
 
 abbrev Inv-loop : tie.InvT-loop
 Inv-loop file c a f at₀ n₀ lines₀ bytes₀ at n lines bytes =
-    Cursor file n at × (n ≤ a .records) × (length (keep (fallsOn c (a .facts)) (numbered file)) ≡ lines + length (keep (fallsOn c (a .facts)) (numberedAt file n))) × (total (lineSize file) (keep (fallsOn c (a .facts)) (numbered file)) ≡ bytes + total (lineSize file) (keep (fallsOn c (a .facts)) (numberedAt file n)))
+    Cursor file n at × (n ≤ a .records) × (length (keep (fallsOn c (a .facts)) (numbered file)) ≡ lines + length (keep (fallsOn c (a .facts)) (numberedAt file n))) × (total (lineSize file (a .facts)) (keep (fallsOn c (a .facts)) (numbered file)) ≡ bytes + total (lineSize file (a .facts)) (keep (fallsOn c (a .facts)) (numberedAt file n)))
 
 abbrev μ-loop : tie.MeasureT-loop
 μ-loop file c a f at₀ n₀ lines₀ bytes₀ at n lines bytes =
@@ -31,6 +32,9 @@ abbrev μ-loop : tie.MeasureT-loop
 abbrev file : tie.After-f Inv-loop μ-loop → List ℕ
 file c = c .before .before .args .file .now
 
+abbrev day : tie.After-f Inv-loop μ-loop → DayFacts
+day c = c .before .before .args .a .facts
+
 abbrev falling : tie.After-f Inv-loop μ-loop → Numbered → Bool
 falling c = fallsOn (c .before .before .args .c) (c .before .before .args .a .facts)
 
@@ -38,28 +42,28 @@ turned : (c : tie.After-next-place Inv-loop μ-loop) → Turn (file (c .before .
 turned c = numbered-cursor _ _ _ (c .before .before .before .loop .inv .0) (omega arith)
 
 -- all records that fall on the day are few and small
-most : (c : tie.After-f Inv-loop μ-loop) → (total (lineSize (file c)) (keep (falling c) (numbered (file c))) + length (keep (falling c) (numbered (file c))) ≤ 65535)
-most c = let b = book-most (file c) (falling c) (c .before .before .pre .long) in omega (arith, c .before .before .pre .size)
+most : (c : tie.After-f Inv-loop μ-loop) → (total (lineSize (file c) (day c)) (keep (falling c) (numbered (file c))) + length (keep (falling c) (numbered (file c))) ≤ 65535)
+most c = let b = book-most (file c) (day c) (falling c) (c .before .before .pre .long) in omega (arith, c .before .before .pre .size)
 
 -- a record that falls on the day, and what its line adds
-one : (c : tie.After-line-size Inv-loop μ-loop) → let l = c .before .before .before .before .before .before in keep (falling (l .before)) (numberedAt (file (l .before)) (l .loop .n)) ≡ recordAt (file (l .before)) (l .loop .n) (l .loop .at) ∷ keep (falling (l .before)) (numberedAt (file (l .before)) (suc (l .loop .n)))
+one : (c : tie.After-record-size Inv-loop μ-loop) → let l = c .before .before .before .before .before .before in keep (falling (l .before)) (numberedAt (file (l .before)) (l .loop .n)) ≡ recordAt (file (l .before)) (l .loop .n) (l .loop .at) ∷ keep (falling (l .before)) (numberedAt (file (l .before)) (suc (l .loop .n)))
 one c =
     let l = c .before .before .before .before .before .before in
     keep-numbered-yes (file (l .before)) (l .loop .n) (l .loop .at) (turned (c .before .before .before)) (falling (l .before)) (sym (c .before .before .falls-at .ensures) ∙ c .before .if2 .taken)
 
-added : (c : tie.After-line-size Inv-loop μ-loop) → let l = c .before .before .before .before .before .before in total (lineSize (file (l .before))) (keep (falling (l .before)) (numberedAt (file (l .before)) (l .loop .n))) ≡ c .line-size .result + total (lineSize (file (l .before))) (keep (falling (l .before)) (numberedAt (file (l .before)) (suc (l .loop .n))))
+added : (c : tie.After-record-size Inv-loop μ-loop) → let l = c .before .before .before .before .before .before in total (lineSize (file (l .before)) (day (l .before))) (keep (falling (l .before)) (numberedAt (file (l .before)) (l .loop .n))) ≡ c .record-size .result + total (lineSize (file (l .before)) (day (l .before))) (keep (falling (l .before)) (numberedAt (file (l .before)) (suc (l .loop .n))))
 added c =
     let l = c .before .before .before .before .before .before in
-    let e = line-size (file (l .before)) (recordAt (file (l .before)) (l .loop .n) (l .loop .at)) in
-    let t = ap (total (lineSize (file (l .before)))) (one c) ∙ total-cons _ _ _ in
-    omega (arith, c .line-size .ensures)
+    let e = line-size (file (l .before)) (day (l .before)) (recordAt (file (l .before)) (l .loop .n) (l .loop .at)) in
+    let t = ap (total (lineSize (file (l .before)) (day (l .before)))) (one c) ∙ total-cons _ _ _ in
+    omega (arith, c .record-size .ensures)
 
 loop-holds : tie.Need-loop-holds Inv-loop μ-loop
 loop-holds c = (
   cursor-first _ (c .before .before .pre .long),
   omega arith,
   ap (λ (xs : List Numbered). length (keep (falling c) xs)) (numbered-first (file c)) ∙ sym (zero-add _),
-  ap (λ (xs : List Numbered). total (lineSize (file c)) (keep (falling c) xs)) (numbered-first (file c)) ∙ sym (zero-add _),
+  ap (λ (xs : List Numbered). total (lineSize (file c) (day c)) (keep (falling c) xs)) (numbered-first (file c)) ∙ sym (zero-add _),
 )
 
 next-place-requires : tie.Need-next-place-requires Inv-loop μ-loop
@@ -74,8 +78,8 @@ falls-at-requires c κs = cursor-ahead _ _ _ (c .before .before .before .loop .i
 add-lines : tie.Need-add-lines Inv-loop μ-loop
 add-lines c = let b = most (c .before .before .before .before .before .before) in omega arith
 
-line-size-requires : tie.Need-line-size-requires Inv-loop μ-loop
-line-size-requires c κs = let h = c .before .before .before .before .before .loop .inv .0 .here in omega arith
+record-size-requires : tie.Need-record-size-requires Inv-loop μ-loop
+record-size-requires c κs = cursor-ahead _ _ _ (c .before .before .before .before .before .loop .inv .0) (omega arith) .entry
 
 add-bytes : tie.Need-add-bytes Inv-loop μ-loop
 add-bytes c =
@@ -102,7 +106,7 @@ loop-again-2 c =
     let t = turned (c .before .before) in
     let k = keep-numbered-no (file (l .before)) (l .loop .n) (l .loop .at) t (falling (l .before)) (sym (c .before .falls-at .ensures) ∙ c .if2 .left) in
     let e = ap (length {A = Numbered}) k in
-    let b = ap (total (lineSize (file (l .before)))) k in
+    let b = ap (total (lineSize (file (l .before)) (day (l .before)))) k in
     rw (add-one (l .loop .n), c .before .before .next-place .ensures) (t .next, omega arith, omega (arith, l .loop .inv .2, e), omega (arith, l .loop .inv .3, b))
 
 returns : tie.Need-returns Inv-loop μ-loop
@@ -110,8 +114,8 @@ returns c =
     let l = c .before .before in
     let k = keep-numbered-end (file (l .before)) (l .loop .n) (falling (l .before)) (omega arith) in
     let e = ap (length {A = Numbered}) k in
-    let b = ap (total (lineSize (file (l .before)))) k ∙ total-nil (lineSize (file (l .before))) in
-    (omega (arith, l .loop .inv .2, e, length-page (falling (l .before)) (file (l .before))), omega (arith, l .loop .inv .3, b, page-bytes (falling (l .before)) (file (l .before))))
+    let b = ap (total (lineSize (file (l .before)) (day (l .before)))) k ∙ total-nil (lineSize (file (l .before)) (day (l .before))) in
+    (omega (arith, l .loop .inv .2, e, length-page (falling (l .before)) (file (l .before))), omega (arith, l .loop .inv .3, b, page-bytes (falling (l .before)) (file (l .before)) (day (l .before))))
 
 pub measure-spec : {M : Type 1} → statement M
 measure-spec =
@@ -124,7 +128,7 @@ measure-spec =
     add-n
     falls-at-requires
     add-lines
-    line-size-requires
+    record-size-requires
     add-bytes
     loop-less
     loop-again

@@ -15,19 +15,19 @@ use Rattle.printing.proofs.puts.put_lines.Statement.{statement}
 use Rattle.printing.proofs.puts.put_lines.Tie as tie
 
 abbrev Inv-loop : tie.InvT-loop
-Inv-loop file codes out₀ at pos₀ i₀ out pos i =
-    Grown out₀ at (pageLines file (codedLines file codes)) out pos (pageLines file (codedLines file (drop i codes)))
+Inv-loop file f codes out₀ at pos₀ i₀ out pos i =
+    Grown out₀ at (pageLines file (codedLines file f codes)) out pos (pageLines file (codedLines file f (drop i codes)))
 
 abbrev μ-loop : tie.MeasureT-loop
-μ-loop file codes out₀ at pos₀ i₀ out pos i =
+μ-loop file f codes out₀ at pos₀ i₀ out pos i =
     length codes - i
 
 -- the next line, and those behind it
-next : (c : tie.After-line-of Inv-loop μ-loop) → let l = c .before .before .before in let a = l .before .before .before .before .args in Grown (a .out .now) (a .at) (pageLines (a .file .now) (codedLines (a .file .now) (a .codes .now))) (l .loop .out) (l .loop .pos) (pageLine (a .file .now) (c .line-of .result) ++ pageLines (a .file .now) (codedLines (a .file .now) (drop (l .loop .i + 1) (a .codes .now))))
+next : (c : tie.After-line-of Inv-loop μ-loop) → let l = c .before .before .before in let a = l .before .before .before .before .args in Grown (a .out .now) (a .at) (pageLines (a .file .now) (codedLines (a .file .now) (a .f) (a .codes .now))) (l .loop .out) (l .loop .pos) (pageLine (a .file .now) (c .line-of .result) ++ pageLines (a .file .now) (codedLines (a .file .now) (a .f) (drop (l .loop .i + 1) (a .codes .now))))
 next c =
     let l = c .before .before .before in
     let a = l .before .before .before .before .args in
-    grown-rest-equal (lines-next (a .file .now) (a .codes .now) (l .loop .i) (omega arith) ∙ ap (λ (x : Line). pageLine (a .file .now) x ++ pageLines (a .file .now) (codedLines (a .file .now) (drop (l .loop .i + 1) (a .codes .now)))) (sym (c .line-of .ensures))) (l .loop .inv)
+    grown-rest-equal (lines-next (a .file .now) (a .f) (a .codes .now) (l .loop .i) (omega arith) ∙ ap (λ (x : Line). pageLine (a .file .now) x ++ pageLines (a .file .now) (codedLines (a .file .now) (a .f) (drop (l .loop .i + 1) (a .codes .now)))) (sym (c .line-of .ensures))) (l .loop .inv)
 
 loop-holds : tie.Need-loop-holds Inv-loop μ-loop
 loop-holds c = grown-start (c .before .before .before .pre)
@@ -62,7 +62,7 @@ returns : tie.Need-returns Inv-loop μ-loop
 returns c =
     let l = c .before in
     let a = l .before .before .before .before .args in
-    grown-end (grown-rest-equal (lines-end (a .file .now) (a .codes .now) (l .loop .i) (omega arith)) (l .loop .inv))
+    grown-end (grown-rest-equal (lines-end (a .file .now) (a .f) (a .codes .now) (l .loop .i) (omega arith)) (l .loop .inv))
 
 pub put-lines-spec : {M : Type 1} → statement M
 put-lines-spec =

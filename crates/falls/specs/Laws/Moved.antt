@@ -1,0 +1,129 @@
+-- Laws of the answers no, own and moved: each is true, they show just where `falls` says so, and only two kinds under last are moved.
+-- Assumes nothing.
+use Prim.Native.Nat.{ℕ, _<_}
+use mathlib.Core.Path.{_≡_, refl, sym, _∙_}
+use mathlib.Core.Bool.{true, false}
+use mathlib.Core.List.{List}
+use native.Mathlib.Omega.{arith}
+use Rattle.prelude.specs.Bytes.{byte}
+use Rattle.prelude.specs.Choice.{ifLt, ifEq, ifB}
+use Rattle.prelude.specs.Laws.Choice.{constructors-differ, is-lt, is-ge, is-eq, is-ne, is-true, is-false, bool-cases, eq-elim, b-elim, lt-skip, lt-take, eq-take, b-take}
+use Rattle.days.specs.declared.types.DayFacts.{DayFacts}
+use Rattle.records.specs.Fields.{monthlyByDateOf, yearlyOf, recordOf}
+use Rattle.records.specs.declared.types.Dated.{Dated}
+use Rattle.records.specs.declared.types.MonthlyByPosition.{MonthlyByPosition}
+use Rattle.records.specs.declared.types.ToDo.{ToDo}
+use Rattle.records.specs.declared.types.Weekly.{Weekly}
+use Rattle.records.specs.declared.types.Record.{Record}
+use Rattle.falls.specs.Falls.{onMissingDay, onDay, byDateFalls, yearlyFalls, falls}
+use Rattle.falls.specs.Laws.Falls.{by-type}
+use Rattle.falls.specs.Moved.{namedDay, dayMissing, falling, isShowing, OnNamedDay, NamesMissing, Says}
+use Rattle.falls.specs.declared.types.ShortMonth.{ShortMonth}
+use Rattle.falls.specs.declared.types.Falling.{Falling}
+
+-- "treat moved as a showing": what asks `falls` does
+pub falling-shows : (c : ShortMonth) (f : DayFacts) (r : Record) → isShowing (falling c f r) ≡ falls c f r
+unfolding falling isShowing
+falling-shows c f r =
+    bool-cases (falls c f r)
+    (λ t. rw (is-true t, t) (bool-cases (dayMissing f r) (λ m. rw (is-true m) refl) (λ m. rw (is-false m) refl)))
+    (λ t. rw (is-false t, t) refl)
+
+false-not : false ≡ true → ⊥
+false-not e = constructors-differ cc
+
+true-not : true ≡ false → ⊥
+true-not e = constructors-differ cc
+
+missing-last : (c : ShortMonth) (f : DayFacts) → onMissingDay c f ≡ true → (c ≡ ShortMonth.Last) × (f .date .day ≡ f .length)
+unfolding onMissingDay
+missing-last ShortMonth.Skip f h = absurd (false-not h)
+missing-last ShortMonth.Last f h = (refl, eq-take (f .date .day) (f .length) true false false-not h .0)
+
+-- a record of a day of the month falls: on its own day, or because of "last"
+module _ (c : ShortMonth) (f : DayFacts) (day : ℕ) (h : onDay c f day ≡ true) where
+  on-own : ifLt (f .length) day true false ≡ false → f .date .day ≡ day
+  unfolding onDay
+  on-own m =
+      let l = lt-skip (f .length) day true false true-not m .0 in
+      eq-take (f .date .day) day true false false-not (sym (is-ge l _ _) ∙ h) .0
+
+  on-last : ifLt (f .length) day true false ≡ true → (c ≡ ShortMonth.Last) × (f .date .day ≡ f .length) × (f .length < day)
+  unfolding onDay
+  on-last m =
+      let l = lt-take (f .length) day true false false-not m .0 in
+      let k = missing-last c f (sym (is-lt l _ _) ∙ h) in
+      (k .0, k .1, l)
+
+past-none : (n : ℕ) → ifLt n 0 true false ≡ true → ⊥
+past-none n m = let l = lt-take n 0 true false false-not m .0 in omega arith
+
+own-named : (c : ShortMonth) (f : DayFacts) (r : Record) → falls c f r ≡ true → dayMissing f r ≡ false → OnNamedDay f r
+unfolding falls namedDay dayMissing byDateFalls yearlyFalls
+own-named c f (Record.Dated d) t m = tt
+own-named c f (Record.Weekly w) t m = tt
+own-named c f (Record.MonthlyByDate x) t m = on-own c f (x .day) (b-take (onDay c f (x .day)) _ _ false-not t .0) m
+own-named c f (Record.MonthlyByPosition x) t m = tt
+own-named c f (Record.Yearly y) t m =
+    on-own c f (y .day) (b-take (onDay c f (y .day)) _ _ false-not (eq-take (f .date .month) (y .month) _ _ false-not t .1) .0) m
+own-named c f (Record.ToDo x) t m = tt
+
+moved-last :
+    (c : ShortMonth) (f : DayFacts) (r : Record) → falls c f r ≡ true → dayMissing f r ≡ true
+    → (c ≡ ShortMonth.Last) × (f .date .day ≡ f .length) × NamesMissing f r
+unfolding falls namedDay dayMissing byDateFalls yearlyFalls
+moved-last c f (Record.Dated d) t m = absurd (past-none (f .length) m)
+moved-last c f (Record.Weekly w) t m = absurd (past-none (f .length) m)
+moved-last c f (Record.MonthlyByDate x) t m = on-last c f (x .day) (b-take (onDay c f (x .day)) _ _ false-not t .0) m
+moved-last c f (Record.MonthlyByPosition x) t m = absurd (past-none (f .length) m)
+moved-last c f (Record.Yearly y) t m =
+    on-last c f (y .day) (b-take (onDay c f (y .day)) _ _ false-not (eq-take (f .date .month) (y .month) _ _ false-not t .1) .0) m
+moved-last c f (Record.ToDo x) t m = absurd (past-none (f .length) m)
+
+-- each answer is true
+pub falling-says : (c : ShortMonth) (f : DayFacts) (r : Record) → Says c f r (falling c f r)
+unfolding falling
+falling-says c f r =
+    b-elim (Says c f r) (falls c f r) _ _
+    (λ t. b-elim (Says c f r) (dayMissing f r) _ _ (λ m. let k = moved-last c f r t m in (t, k .0, k .1, k .2)) (λ m. (t, own-named c f r t m)))
+    (λ t. t)
+
+-- of a record that falls, the missing day alone decides
+pub falling-missing : (c : ShortMonth) (f : DayFacts) (r : Record) → falls c f r ≡ true → falling c f r ≡ ifB (dayMissing f r) Falling.Moved Falling.Own
+unfolding falling
+falling-missing c f r t = is-true t _ _
+
+moved-says : (c : ShortMonth) (f : DayFacts) (r : Record) → falling c f r ≡ Falling.Moved → Says c f r Falling.Moved
+moved-says c f r e = rw e at (falling-says c f r)
+
+-- under skip nothing is moved
+pub skip-unmoved : (f : DayFacts) (r : Record) → falling ShortMonth.Skip f r ≡ Falling.Moved → ⊥
+skip-unmoved f r e = let l = moved-says ShortMonth.Skip f r e .1 in constructors-differ cc
+
+-- nor, under either, what is dated, weekly, by position or to be done
+module _ (c : ShortMonth) (f : DayFacts) where
+  pub dated-unmoved : (d : Dated) → falling c f (Record.Dated d) ≡ Falling.Moved → ⊥
+  dated-unmoved d e = moved-says c f (Record.Dated d) e .3
+
+  pub weekly-unmoved : (w : Weekly) → falling c f (Record.Weekly w) ≡ Falling.Moved → ⊥
+  weekly-unmoved w e = moved-says c f (Record.Weekly w) e .3
+
+  pub by-position-unmoved : (m : MonthlyByPosition) → falling c f (Record.MonthlyByPosition m) ≡ Falling.Moved → ⊥
+  by-position-unmoved m e = moved-says c f (Record.MonthlyByPosition m) e .3
+
+  pub to-do-unmoved : (t : ToDo) → falling c f (Record.ToDo t) ≡ Falling.Moved → ⊥
+  to-do-unmoved t e = moved-says c f (Record.ToDo t) e .3
+
+else-same : {X : Type 0} (a b : ℕ) (x : X) {y z : X} → ((a ≡ b → ⊥) → y ≡ z) → ifEq a b x y ≡ ifEq a b x z
+else-same a b x {y} {z} h =
+    eq-elim (λ u. u ≡ ifEq a b x z) a b x y (λ e. sym (is-eq e _ _)) (λ n. h n ∙ sym (is-ne n _ _))
+
+-- the named day over the type number, as a reader of bytes meets it
+pub named-type : (t : ℕ) (p : List ℕ) → namedDay (recordOf t p) ≡ ifEq t 3 (byte p 1) (ifEq t 5 (byte p 2) 0)
+unfolding namedDay monthlyByDateOf yearlyOf
+named-type t p =
+    by-type namedDay t p
+    ∙ eq-elim (λ z. z ≡ ifEq t 3 (byte p 1) (ifEq t 5 (byte p 2) 0)) t 1 _ _ (λ e. sym (is-ne (λ q. omega arith) _ _ ∙ is-ne (λ q. omega arith) _ _))
+    (λ _. eq-elim (λ z. z ≡ ifEq t 3 (byte p 1) (ifEq t 5 (byte p 2) 0)) t 2 _ _ (λ e. sym (is-ne (λ q. omega arith) _ _ ∙ is-ne (λ q. omega arith) _ _))
+    (λ _. else-same t 3 (byte p 1)
+    (λ n3. eq-elim (λ z. z ≡ ifEq t 5 (byte p 2) 0) t 4 _ _ (λ e. sym (is-ne (λ q. omega arith) _ _)) (λ _. refl))))
