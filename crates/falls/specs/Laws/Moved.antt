@@ -2,7 +2,7 @@
 -- Assumes nothing.
 use Prim.Native.Nat.{ℕ, _<_}
 use mathlib.Core.Path.{_≡_, refl, sym, _∙_}
-use mathlib.Core.Bool.{true, false}
+use mathlib.Core.Bool.{true, false, true≢false, false≢true}
 use mathlib.Core.List.{List}
 use native.Mathlib.Omega.{arith}
 use Rattle.prelude.specs.Bytes.{byte}
@@ -29,43 +29,37 @@ falling-shows c f r =
     (λ t. rw (is-true t, t) (bool-cases (dayMissing f r) (λ m. rw (is-true m) refl) (λ m. rw (is-false m) refl)))
     (λ t. rw (is-false t, t) refl)
 
-false-not : false ≡ true → ⊥
-false-not e = constructors-differ cc
-
-true-not : true ≡ false → ⊥
-true-not e = constructors-differ cc
-
 missing-last : (c : ShortMonth) (f : DayFacts) → onMissingDay c f ≡ true → (c ≡ ShortMonth.Last) × (f .date .day ≡ f .length)
 unfolding onMissingDay
-missing-last ShortMonth.Skip f h = absurd (false-not h)
-missing-last ShortMonth.Last f h = (refl, eq-take (f .date .day) (f .length) true false false-not h .0)
+missing-last ShortMonth.Skip f h = absurd (false≢true h)
+missing-last ShortMonth.Last f h = (refl, eq-take (f .date .day) (f .length) true false false≢true h .0)
 
 -- a record of a day of the month falls: on its own day, or because of "last"
 module _ (c : ShortMonth) (f : DayFacts) (day : ℕ) (h : onDay c f day ≡ true) where
   on-own : ifLt (f .length) day true false ≡ false → f .date .day ≡ day
   unfolding onDay
   on-own m =
-      let l = lt-skip (f .length) day true false true-not m .0 in
-      eq-take (f .date .day) day true false false-not (sym (is-ge l _ _) ∙ h) .0
+      let l = lt-skip (f .length) day true false true≢false m .0 in
+      eq-take (f .date .day) day true false false≢true (sym (is-ge l _ _) ∙ h) .0
 
   on-last : ifLt (f .length) day true false ≡ true → (c ≡ ShortMonth.Last) × (f .date .day ≡ f .length) × (f .length < day)
   unfolding onDay
   on-last m =
-      let l = lt-take (f .length) day true false false-not m .0 in
+      let l = lt-take (f .length) day true false false≢true m .0 in
       let k = missing-last c f (sym (is-lt l _ _) ∙ h) in
       (k .0, k .1, l)
 
 past-none : (n : ℕ) → ifLt n 0 true false ≡ true → ⊥
-past-none n m = let l = lt-take n 0 true false false-not m .0 in omega arith
+past-none n m = let l = lt-take n 0 true false false≢true m .0 in omega arith
 
 own-named : (c : ShortMonth) (f : DayFacts) (r : Record) → falls c f r ≡ true → dayMissing f r ≡ false → OnNamedDay f r
 unfolding falls namedDay dayMissing byDateFalls yearlyFalls
 own-named c f (Record.Dated d) t m = tt
 own-named c f (Record.Weekly w) t m = tt
-own-named c f (Record.MonthlyByDate x) t m = on-own c f (x .day) (b-take (onDay c f (x .day)) _ _ false-not t .0) m
+own-named c f (Record.MonthlyByDate x) t m = on-own c f (x .day) (b-take (onDay c f (x .day)) _ _ false≢true t .0) m
 own-named c f (Record.MonthlyByPosition x) t m = tt
 own-named c f (Record.Yearly y) t m =
-    on-own c f (y .day) (b-take (onDay c f (y .day)) _ _ false-not (eq-take (f .date .month) (y .month) _ _ false-not t .1) .0) m
+    on-own c f (y .day) (b-take (onDay c f (y .day)) _ _ false≢true (eq-take (f .date .month) (y .month) _ _ false≢true t .1) .0) m
 own-named c f (Record.ToDo x) t m = tt
 
 moved-last :
@@ -74,10 +68,10 @@ moved-last :
 unfolding falls namedDay dayMissing byDateFalls yearlyFalls
 moved-last c f (Record.Dated d) t m = absurd (past-none (f .length) m)
 moved-last c f (Record.Weekly w) t m = absurd (past-none (f .length) m)
-moved-last c f (Record.MonthlyByDate x) t m = on-last c f (x .day) (b-take (onDay c f (x .day)) _ _ false-not t .0) m
+moved-last c f (Record.MonthlyByDate x) t m = on-last c f (x .day) (b-take (onDay c f (x .day)) _ _ false≢true t .0) m
 moved-last c f (Record.MonthlyByPosition x) t m = absurd (past-none (f .length) m)
 moved-last c f (Record.Yearly y) t m =
-    on-last c f (y .day) (b-take (onDay c f (y .day)) _ _ false-not (eq-take (f .date .month) (y .month) _ _ false-not t .1) .0) m
+    on-last c f (y .day) (b-take (onDay c f (y .day)) _ _ false≢true (eq-take (f .date .month) (y .month) _ _ false≢true t .1) .0) m
 moved-last c f (Record.ToDo x) t m = absurd (past-none (f .length) m)
 
 -- each answer is true

@@ -2,14 +2,14 @@
 -- Assumes nothing.
 use Prim.Native.Nat.{ℕ, zero, suc, _+_, _*_, _<_, _≤_}
 use mathlib.Core.Path.{_≡_, _∙_}
-use mathlib.Core.Bool.{Bool, true, false}
+use mathlib.Core.Bool.{Bool, true, false, false≢true}
 use mathlib.Core.List.{List, map}
 use native.Mathlib.Omega.{arith}
 use lib.ListN.{length, length-append, length-map, length-take, length-drop}
 use Rattle.prelude.specs.Bytes.{bit, stretchBytes}
 use Rattle.prelude.specs.Choice.{ifEq}
 use Rattle.prelude.specs.Laws.Bytes.{bit-most}
-use Rattle.prelude.specs.Laws.Choice.{constructors-differ, bool-cases, eq-elim, b-elim, lt-take}
+use Rattle.prelude.specs.Laws.Choice.{bool-cases, eq-elim, b-elim, lt-take}
 use Rattle.sorting.specs.Keep.{keep}
 use Rattle.sorting.specs.Order.{sort}
 use Rattle.sorting.specs.Totals.{total}
@@ -54,7 +54,7 @@ unfolding dayMissing fixedOf ifEq
 missing-fixed d t p h =
     eq-elim (λ z. d .length < z → 16 ≤ fixedOf t) t 3 _ _ (λ e _. rw e (omega arith))
     (λ _. eq-elim (λ z. d .length < z → 16 ≤ fixedOf t) t 5 _ _ (λ e _. rw e (omega arith)) (λ _ l. absurd (omega arith)))
-    (rw (named-type t p) at (lt-take (d .length) (namedDay (recordOf t p)) true false (λ z. constructors-differ cc) h .0))
+    (rw (named-type t p) at (lt-take (d .length) (namedDay (recordOf t p)) true false false≢true h .0))
 
 -- so that the mark has room
 mark-fixed : (d : DayFacts) (t : ℕ) (p : List ℕ) → 11 + bit (dayMissing d (recordOf t p)) ≤ fixedOf t

@@ -2,11 +2,11 @@
 -- Assumes nothing.
 use Prim.Native.Nat.{_<_, _≤_}
 use mathlib.Core.Path.{refl, sym, _∙_, ap}
-use mathlib.Core.Bool.{true, false}
+use mathlib.Core.Bool.{true, false, true≢false, false≢true}
 use native.Mathlib.Nat.{zero-add}
 use native.Mathlib.Omega.{arith}
 use lib.ListN.{length}
-use Rattle.prelude.specs.Laws.Choice.{constructors-differ, lt-yes, lt-no, lt-take, lt-skip}
+use Rattle.prelude.specs.Laws.Choice.{lt-yes, lt-no, lt-take, lt-skip}
 use Rattle.prelude.specs.declared.answers.CountAnswer.{CountAnswer}
 use Rattle.printing.specs.Coded.{codedText}
 use borrow.Author.Needs.{needs}
@@ -14,10 +14,10 @@ use Rattle.printing.proofs.calls.print_codes.Statement.{statement}
 use Rattle.printing.proofs.calls.print_codes.Tie as tie
 
 short : (c : tie.Then1) → let a = c .before .before .before .before .before .args in length (a .out .now) < length (codedText (a .file .now) (a .f) (a .codes .now))
-short c = lt-take _ _ true false (λ z. constructors-differ cc) (sym (c .before .exceeds .ensures) ∙ c .if1 .taken) .0
+short c = lt-take _ _ true false false≢true (sym (c .before .exceeds .ensures) ∙ c .if1 .taken) .0
 
 fits : (c : tie.Else1) → let a = c .before .before .before .before .before .args in length (codedText (a .file .now) (a .f) (a .codes .now)) ≤ length (a .out .now)
-fits c = lt-skip _ _ true false (λ z. constructors-differ cc) (sym (c .before .exceeds .ensures) ∙ c .if1 .left) .0
+fits c = lt-skip _ _ true false true≢false (sym (c .before .exceeds .ensures) ∙ c .if1 .left) .0
 
 exceeds-requires : tie.Need-exceeds-requires
 exceeds-requires c κs = search needs
