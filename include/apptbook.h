@@ -24,9 +24,9 @@
 /*
  * Of this header and its library: raised whenever a call is added or changed, so that a caller can compare it by #if.
  * 1: the first calls. 2: apptbook_check_chains. 3: apptbook_default_last: who has no wish gets last, where it was skip.
- * 4: apptbook_falls_on and apptbook_page_line tell when a showing is moved, and printed pages mark it.
+ * 4: apptbook_falls_on and apptbook_page_line tell when a showing is moved, and printed pages mark it. 5: apptbook_why.
  */
-#define APPTBOOK_VERSION 4
+#define APPTBOOK_VERSION 5
 
 #ifdef __cplusplus
 extern "C" {
@@ -351,11 +351,31 @@ enum {
     APPTBOOK_FALLS_MOVED = 2 /* on the month's last day, since its own day is missing there */
 };
 
+/* Why a record is on a day (1 and 2), or why it is not. Where several of the others hold, the first here is given. */
+enum {
+    APPTBOOK_OWN_DAY = 1,         /* it is here: this is its own day */
+    APPTBOOK_MOVED = 2,           /* it is here: this month does not have its own day */
+    APPTBOOK_IS_TO_DO = 3,        /* to-dos are on no page */
+    APPTBOOK_BEFORE_START = 4,    /* it begins later; a dated record: its date is later */
+    APPTBOOK_AFTER_LAST_DAY = 5,  /* it has ended; a dated record: its date was earlier */
+    APPTBOOK_WRONG_MONTH = 6,     /* it comes in another month of the year */
+    APPTBOOK_MONTH_TOO_SHORT = 7, /* last would show it here: this month does not have its own day */
+    APPTBOOK_WRONG_DAY = 8,       /* it comes on another day of the month */
+    APPTBOOK_WRONG_WEEKDAY = 9,   /* it comes on another weekday */
+    APPTBOOK_WRONG_WEEK = 10      /* it comes on this weekday, but in another week of the month */
+};
+
 typedef struct apptbook_falls_answer {
     uint32_t number;
     size_t place;
     uint16_t falls; /* APPTBOOK_FALLS_NOT to APPTBOOK_FALLS_MOVED */
 } apptbook_falls_answer;
+
+typedef struct apptbook_reason_answer {
+    uint32_t number;
+    size_t place;
+    uint16_t reason; /* APPTBOOK_OWN_DAY to APPTBOOK_WRONG_WEEK; 0 only on a refusal */
+} apptbook_reason_answer;
 
 typedef struct apptbook_occurrence_answer {
     uint32_t number;
@@ -392,6 +412,13 @@ bool apptbook_default_last(void);
  */
 apptbook_falls_answer apptbook_falls_on(const uint8_t *file, size_t len, size_t record, uint16_t day,
                                         bool last);
+
+/*
+ * Why a record is on a day, or why it is not. The reason is APPTBOOK_OWN_DAY (1) or APPTBOOK_MOVED (2) just where
+ * the day's page has the record. APPTBOOK_MONTH_TOO_SHORT (7) is given only on a month's last day and only under
+ * skip. Refused with 11, then with 10 when there is no such record.
+ */
+apptbook_reason_answer apptbook_why(const uint8_t *file, size_t len, size_t record, uint16_t day, bool last);
 
 /*
  * The first day at or after the asked one on which a record falls; looked is then that day - day + 1.

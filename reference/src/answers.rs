@@ -10,11 +10,13 @@ use crate::book::{Book, Settings};
 use crate::calendar::{Appointment, Descriptor};
 use crate::days::{Date, Facts};
 use crate::pages::{Falls, Line, Search};
+use crate::reasons::Reason;
 use crate::refusal::Refusal;
 use apptbook::raw::book::{BookAnswer, LineAnswer, LinesAnswer};
 use apptbook::raw::calendar::{AppointmentAnswer, DescriptorAnswer};
 use apptbook::raw::days::{DateAnswer, DayAnswer, FactsAnswer, LengthAnswer, WeekdayAnswer};
 use apptbook::raw::pages::{CountAnswer, FallsAnswer, OccurrenceAnswer, PageLineAnswer};
+use apptbook::raw::reasons::ReasonAnswer;
 pub use records::entry_of;
 use std::ops::Range;
 pub use writer::{state_of, writer_answer};
@@ -66,6 +68,20 @@ answer_of_result!(FallsAnswer, Falls, falls => {
         Falls::Not => 0,
         Falls::OnItsDay => 1,
         Falls::Moved => 2,
+    },
+});
+answer_of_result!(ReasonAnswer, Reason, reason => {
+    reason: match reason {
+        Reason::OwnDay => 1,
+        Reason::Moved => 2,
+        Reason::IsToDo => 3,
+        Reason::BeforeStart => 4,
+        Reason::AfterEnd => 5,
+        Reason::WrongMonth => 6,
+        Reason::MonthTooShort => 7,
+        Reason::WrongDay => 8,
+        Reason::WrongWeekday => 9,
+        Reason::WrongWeek => 10,
     },
 });
 answer_of_result!(CountAnswer, usize, count => { count: count });

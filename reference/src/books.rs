@@ -16,7 +16,7 @@ pub use drafts::{full_note, letters, Draft, Field, SETTINGS};
 pub use edges::edge_notes;
 pub use file::File;
 pub use fillers::FILLER;
-pub use near::{book_near, edge_day, near};
+pub use near::{any_entry, book_near, edge_day, near};
 pub use spans::{book_of_span, crowded, Span, CROWDED_SPAN};
 
 pub struct Case {

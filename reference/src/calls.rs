@@ -4,10 +4,11 @@
 use crate::answers::{entry_of, settings_of, state_of, writer_answer, IntoAnswer};
 use crate::pages::ShortMonth;
 use crate::writer::{NewRecord, Writer};
-use crate::{book, chains, export, pages, printed, process, program, writer};
+use crate::{book, chains, export, pages, printed, process, program, reasons, writer};
 use apptbook::raw;
 use apptbook::raw::book::{BookAnswer, LineAnswer, LinesAnswer, RecordAnswer};
 use apptbook::raw::pages::{CountAnswer, FallsAnswer, OccurrenceAnswer, PageLineAnswer};
+use apptbook::raw::reasons::ReasonAnswer;
 use apptbook::raw::writer::WriterAnswer;
 
 type Add = fn(WriterAnswer, &mut [u8], RecordAnswer, &[u8], &[u8]) -> WriterAnswer;
@@ -21,6 +22,7 @@ pub struct Calls {
     pub note_line: fn(&[u8], usize, usize) -> LineAnswer,
     pub default_last: fn() -> bool,
     pub falls_on: fn(&[u8], usize, u16, ShortMonth) -> FallsAnswer,
+    pub why: fn(&[u8], usize, u16, ShortMonth) -> ReasonAnswer,
     pub next_occurrence: fn(&[u8], usize, u16, ShortMonth) -> OccurrenceAnswer,
     pub page_lines: fn(&[u8], u16, ShortMonth) -> CountAnswer,
     pub page_line: fn(&[u8], u16, ShortMonth, usize) -> PageLineAnswer,
@@ -43,6 +45,7 @@ pub const PROVED: Calls = Calls {
     note_line: raw::book::note_line,
     default_last: || raw::pages::default_last(),
     falls_on: raw::pages::falls_on,
+    why: raw::reasons::why,
     next_occurrence: raw::pages::next_occurrence,
     page_lines: raw::pages::page_lines,
     page_line: raw::pages::page_line,
@@ -64,6 +67,7 @@ pub const PLAIN: Calls = Calls {
     note_line: |file, record, line| book::note_line(file, record, line).answer(),
     default_last: || pages::DEFAULT == ShortMonth::Last,
     falls_on: |file, record, day, choice| pages::falls_on(file, record, day, choice).answer(),
+    why: |file, record, day, choice| reasons::why(file, record, day, choice).answer(),
     next_occurrence: |file, record, day, choice| pages::next_occurrence(file, record, day, choice).answer(),
     page_lines: |file, day, choice| pages::page_lines(file, day, choice).answer(),
     page_line: |file, day, choice, line| pages::page_line(file, day, choice, line).answer(),

@@ -103,6 +103,11 @@ pub fn day_facts(day: u16) -> Result<Facts, Refusal> {
     Ok(Facts { calendar_day: day, date, weekday: weekday(day)?, month_length })
 }
 
+/// Of every day there is.
+pub fn all_facts() -> Vec<Facts> {
+    (0..=LAST_DAY).map(|day| day_facts(day).expect("a Calendar day")).collect()
+}
+
 /// The day after. Facts that belong to no day are stepped in the same way.
 pub fn next_day(facts: Facts) -> Result<Facts, Refusal> {
     let Facts { calendar_day, date, weekday, month_length } = facts;

@@ -25,6 +25,8 @@ pub struct Tally {
     pub bytes: u64,
     /// Records that were asked for, and page lines, which were moved.
     pub moved: [u64; 2],
+    /// How often each reason was given, by its number; 0 where it was refused.
+    pub reasons: [u64; 11],
 }
 
 impl Tally {

@@ -35,6 +35,7 @@ pub mod pages;
 pub mod printed;
 pub mod process;
 pub mod program;
+pub mod reasons;
 pub mod records;
 pub mod refusal;
 pub mod rng;

@@ -17,6 +17,7 @@ pub fn lines(note: &[u8]) -> impl Iterator<Item = Range<usize>> + '_ {
     })
 }
 
+#[inline(always)] // in the reader's loop
 pub fn is_right(note: &[u8]) -> bool {
     let right = |(number, line): (usize, Range<usize>)| number < MOST_LINES && line.len() <= LONGEST_LINE;
     note.len() <= LONGEST && lines(note).enumerate().all(right)

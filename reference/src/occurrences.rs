@@ -76,6 +76,18 @@ fn showings_of_rule(rule: Rule, first: u16, choice: ShortMonth) -> Vec<Showing> 
     }
 }
 
+/// Every rule there is.
+pub fn rules() -> Vec<Rule> {
+    let weekly = (1..=7).map(|weekday| Rule::Weekly { weekday });
+    let monthly = (1..=31).map(|day| Rule::MonthlyByDate { day });
+    let position =
+        (1..=5).flat_map(|week| (1..=7).map(move |weekday| Rule::MonthlyByPosition { week, weekday }));
+    // The days of 1980, a leap year.
+    let dates = (0..366).map(|day| civil::date_of_day(day).expect("a Calendar day"));
+    let yearly = dates.map(|Date { month, day, .. }| Rule::Yearly { month, day });
+    weekly.chain(monthly).chain(position).chain(yearly).collect()
+}
+
 fn day(date: Date) -> u16 {
     civil::day_of_date(date).expect("a real date")
 }

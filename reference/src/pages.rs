@@ -111,7 +111,7 @@ pub fn next_occurrence(file: &[u8], record: usize, day: u16, choice: ShortMonth)
     Ok(Search { day: Some(found), looked: u32::from(found - day + 1) })
 }
 
-fn asked(file: &[u8], record: usize, day: u16) -> Result<(Record, Facts), Refusal> {
+pub(crate) fn asked(file: &[u8], record: usize, day: u16) -> Result<(Record, Facts), Refusal> {
     match book::record(file, record) {
         Err(refusal) if refusal != NO_SUCH_NUMBER => Err(refusal),
         record => {

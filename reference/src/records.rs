@@ -151,6 +151,7 @@ impl Fields<'_> {
         Some(self.byte()).filter(|byte| range.contains(byte))
     }
 
+    #[inline(always)] // as in `read`, however many others ask for dates
     fn date(&mut self) -> Option<Date> {
         let date = Date { year: 1900 + self.byte(), month: self.byte(), day: self.byte() };
         Some(date).filter(|&date| is_real_date(date))

@@ -1,5 +1,5 @@
 //! Books written out by hand, byte for byte, with what a reader is to give; Calendar files, day chains, pages, moved
-//! showings, command lines and bytes after the end in the files beside.
+//! showings, reasons, command lines and bytes after the end in the files beside.
 
 pub mod calendars;
 pub mod chains;
@@ -8,6 +8,8 @@ pub mod exports;
 pub mod fillers;
 pub mod moved;
 pub mod pages;
+pub mod reasons;
+pub mod single;
 
 use crate::days::Date;
 use crate::records::{Entry, Record, Rule, Times};

@@ -2,6 +2,7 @@
 
 use apptbook::raw::book::{BookAnswer, LineAnswer, LinesAnswer, RecordAnswer};
 use apptbook::raw::pages::{CountAnswer, FallsAnswer, OccurrenceAnswer, PageLineAnswer};
+use apptbook::raw::reasons::ReasonAnswer;
 use reference::answers::IntoAnswer;
 use reference::books::{book_near, book_of_span, edge_day, small, File, Span};
 use reference::calls::{Calls, PLAIN, PROVED};
@@ -28,8 +29,8 @@ fn asked(day: u16, first: u16, count: u16, choice: ShortMonth) -> Asked {
     Asked { day, span: Span { first, count }, choice, step: 1 }
 }
 
-/// A record, its notes, and when it falls.
-type OfRecord = (RecordAnswer, LinesAnswer, Vec<LineAnswer>, FallsAnswer, OccurrenceAnswer);
+/// A record, its notes, when it falls, and why.
+type OfRecord = (RecordAnswer, LinesAnswer, Vec<LineAnswer>, FallsAnswer, ReasonAnswer, OccurrenceAnswer);
 
 /// An answer, and the buffer with the bytes around it.
 type Written = (CountAnswer, Vec<u8>);
@@ -52,6 +53,7 @@ fn of_record(calls: &Calls, file: &[u8], record: usize, asked: Asked) -> OfRecor
         lines,
         (0..=lines.lines).map(|line| (calls.note_line)(file, record, line)).collect(),
         (calls.falls_on)(file, record, asked.day, asked.choice),
+        (calls.why)(file, record, asked.day, asked.choice),
         (calls.next_occurrence)(file, record, asked.day, asked.choice),
     )
 }
@@ -181,10 +183,11 @@ fn wrong_fillers() {
     {
         let refusal = Refusal { number: 9, place };
         let (record, lines, line) = (Err(refusal).answer(), Err(refusal).answer(), Err(refusal).answer());
+        let (falls, why, next) = (Err(refusal).answer(), Err(refusal).answer(), Err(refusal).answer());
         let nothing = |room: usize| (Err(refusal).answer(), pattern(room));
         let expected = Given {
             book: Err(refusal).answer(),
-            records: vec![(record, lines, vec![line], Err(refusal).answer(), Err(refusal).answer())],
+            records: vec![(record, lines, vec![line], falls, why, next)],
             lines: Err(refusal).answer(),
             page: vec![Err(refusal).answer()],
             length: Err(refusal).answer(),

@@ -36,6 +36,7 @@ const CALLS: &[(&str, &[u32])] = &[
     ("close", &[0, 12, 14]),
     ("default_last", &[0]),
     ("falls_on", &[0, 1, 2, 3, 4, 5, 6, 7, 8, 9, 10, 11]),
+    ("why", &[0, 1, 2, 3, 4, 5, 6, 7, 8, 9, 10, 11]),
     ("next_occurrence", &[0, 1, 2, 3, 4, 5, 6, 7, 8, 9, 10, 11]),
     ("page_lines", &[0, 1, 2, 3, 4, 5, 6, 7, 8, 9, 11]),
     ("page_line", &[0, 1, 2, 3, 4, 5, 6, 7, 8, 9, 10, 11]),
@@ -56,13 +57,14 @@ fn hostile_calls() {
     for _ in 0..3_000 {
         fuzz.round(rng.u64());
     }
-    println!("{}moved: {:?}", fuzz.tally, fuzz.tally.moved);
+    println!("{}moved: {:?}, reasons: {:?}", fuzz.tally, fuzz.tally.moved, fuzz.tally.reasons);
     for (call, numbers) in CALLS {
         let seen = &fuzz.tally.counts[call];
         assert!(numbers.iter().all(|number| seen.contains_key(number)), "{call}: {seen:?}");
     }
     assert_eq!(fuzz.tally.counts.len(), CALLS.len());
     assert!(fuzz.tally.moved.iter().all(|&count| count >= 5), "moved: {:?}", fuzz.tally.moved);
+    assert!(fuzz.tally.reasons.iter().all(|&count| count >= 5), "reasons: {:?}", fuzz.tally.reasons);
 }
 
 /// Books end with fillers in all ways: right ones, a wrong byte among them, too many, too many and a wrong one.

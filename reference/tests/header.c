@@ -3,7 +3,7 @@
 
 #include <stdio.h>
 
-#if APPTBOOK_VERSION < 4
+#if APPTBOOK_VERSION < 5
 #error "a version that the preprocessor can compare"
 #endif
 

@@ -77,6 +77,7 @@ in_both!("header.c", expected());
 fn the_numbers_of_the_crate() {
     use apptbook::raw::book::*;
     use apptbook::raw::pages::{FALLS_MOVED, FALLS_NOT, FALLS_ON_ITS_DAY};
+    use apptbook::raw::reasons::*;
     use apptbook::refusals::*;
     let refusals = [
         [0, BOOK_TOO_LONG, NOT_A_BOOK, BAD_SETTINGS, CUT_SHORT, UNKNOWN_TYPE].as_slice(),
@@ -90,7 +91,12 @@ fn the_numbers_of_the_crate() {
     let kinds = [DATED, WEEKLY, MONTHLY_BY_DATE, MONTHLY_BY_POSITION, YEARLY, TO_DO];
     assert!(book::CALLS.starts_with(&format!("kinds {}\n", kinds.map(|kind| kind.to_string()).join(" "))));
     let falls = format!("falls {FALLS_NOT} {FALLS_ON_ITS_DAY} {FALLS_MOVED}\n");
-    assert!(pages::CALLS.starts_with(&falls));
+    let reasons = [
+        [OWN_DAY, MOVED, IS_TO_DO, BEFORE_START, AFTER_LAST_DAY],
+        [WRONG_MONTH, MONTH_TOO_SHORT, WRONG_DAY, WRONG_WEEKDAY, WRONG_WEEK],
+    ];
+    let words: Vec<String> = reasons.concat().iter().map(u16::to_string).collect();
+    assert!(pages::CALLS.starts_with(&format!("{falls}reasons {}\n", words.join(" "))));
     let flags = format!("flags {} {}\n", apptbook::FLAG_ALARM, apptbook::FLAG_SPECIAL_TIME);
     assert!(calendar::CALLS.starts_with(&flags));
 }
@@ -147,10 +153,12 @@ same 1
 
 mod pages {
     use apptbook::raw::pages::{CountAnswer, FallsAnswer, OccurrenceAnswer, PageLineAnswer};
+    use apptbook::raw::reasons::ReasonAnswer;
 
     fn expected() -> String {
         let sizes = [
             size_of::<FallsAnswer>(),
+            size_of::<ReasonAnswer>(),
             size_of::<OccurrenceAnswer>(),
             size_of::<CountAnswer>(),
             size_of::<PageLineAnswer>(),
@@ -160,6 +168,7 @@ mod pages {
 
     pub const CALLS: &str = "\
 falls 0 1 2
+reasons 1 2 3 4 5 6 7 8 9 10
 default_last 1
 falls_on 0 0 1
 falls_on 0 0 1
@@ -167,6 +176,14 @@ falls_on 0 0 0
 falls_on 0 0 2
 falls_on 0 0 2
 falls_on 10 0 0
+why 0 0 1
+why 0 0 5
+why 0 0 8
+why 0 0 7
+why 0 0 2
+why 10 0 0
+why 11 0 0
+why 4 49 0
 next_occurrence 0 0 61 4899 1
 next_occurrence 0 0 30 4868 1
 next_occurrence 0 0 39007 0 0

@@ -50,6 +50,8 @@ static void see_record(const uint8_t *file, size_t len, size_t i) {
     }
     for (int d = 0; d < 4; d++) {
         see(apptbook_falls_on(file, len, i, DAYS[d], d > 0).falls);
+        see(apptbook_why(file, len, i, DAYS[d], false).reason);
+        see(apptbook_why(file, len, i, DAYS[d], true).reason);
         see(apptbook_next_occurrence(file, len, i, DAYS[d], d > 0).looked);
     }
 }
@@ -156,6 +158,8 @@ static void see_numbers(const uint8_t *file, size_t len) {
     see(apptbook_note_lines(file, len, 0).number);
     see(apptbook_note_line(file, len, 0, SIZE_MAX).number);
     see(apptbook_falls_on(file, len, 0, 43830, false).number);
+    see(apptbook_why(file, len, 0, 43830, false).number);
+    see(apptbook_why(file, len, SIZE_MAX, 43829, true).number);
     see(apptbook_next_occurrence(file, len, 0, 65535, false).number);
     see(apptbook_page_lines(file, len, 43830, true).number);
     see(apptbook_page_line(file, len, 0, true, SIZE_MAX).number);

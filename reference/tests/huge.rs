@@ -1,7 +1,7 @@
 //! Lengths that more than 32 bits hold. Of the bytes lent, only the first have memory; the rest are zeros that cannot be
 //! written to.
 
-use apptbook::raw::{book, calendar, chains, export, pages, writer};
+use apptbook::raw::{book, calendar, chains, export, pages, reasons, writer};
 use reference::answers::IntoAnswer;
 use reference::chains::NONE;
 use reference::pages::CHOICES;
@@ -48,6 +48,7 @@ fn huge_books() {
         assert_eq!(book::note_line(file, 0, 0), Err(refusal).answer());
         for choice in CHOICES {
             assert_eq!(pages::falls_on(file, 0, 4_822, choice), Err(refusal).answer());
+            assert_eq!(reasons::why(file, 0, 4_822, choice), Err(refusal).answer());
             assert_eq!(pages::next_occurrence(file, 0, 4_822, choice), Err(refusal).answer());
             assert_eq!(pages::page_lines(file, 4_822, choice), Err(refusal).answer());
             assert_eq!(pages::page_line(file, 4_822, choice, 0), Err(refusal).answer());

@@ -14,6 +14,10 @@ static void print_falls(apptbook_falls_answer r) {
     printf("falls_on %u %zu %u\n", (unsigned)r.number, r.place, (unsigned)r.falls);
 }
 
+static void print_why(apptbook_reason_answer r) {
+    printf("why %u %zu %u\n", (unsigned)r.number, r.place, (unsigned)r.reason);
+}
+
 static void print_next(apptbook_occurrence_answer r) {
     printf("next_occurrence %u %zu %u %u %d\n", (unsigned)r.number, r.place, (unsigned)r.looked,
            (unsigned)r.day, r.found);
@@ -33,9 +37,13 @@ int main(void) {
     uint8_t page[64];
     apptbook_count_answer written;
 
-    printf("sizes %zu %zu %zu %zu\n", sizeof(apptbook_falls_answer), sizeof(apptbook_occurrence_answer),
-           sizeof written, sizeof(apptbook_page_line_answer));
+    printf("sizes %zu %zu %zu %zu %zu\n", sizeof(apptbook_falls_answer), sizeof(apptbook_reason_answer),
+           sizeof(apptbook_occurrence_answer), sizeof written, sizeof(apptbook_page_line_answer));
     printf("falls %d %d %d\n", APPTBOOK_FALLS_NOT, APPTBOOK_FALLS_ON_ITS_DAY, APPTBOOK_FALLS_MOVED);
+    printf("reasons %d %d %d %d %d", APPTBOOK_OWN_DAY, APPTBOOK_MOVED, APPTBOOK_IS_TO_DO, APPTBOOK_BEFORE_START,
+           APPTBOOK_AFTER_LAST_DAY);
+    printf(" %d %d %d %d %d\n", APPTBOOK_WRONG_MONTH, APPTBOOK_MONTH_TOO_SHORT, APPTBOOK_WRONG_DAY,
+           APPTBOOK_WRONG_WEEKDAY, APPTBOOK_WRONG_WEEK);
     printf("default_last %d\n", apptbook_default_last());
     print_falls(apptbook_falls_on(file, sizeof file, 0, 4822, false));
     print_falls(apptbook_falls_on(file, sizeof file, 1, 4838, true));
@@ -43,6 +51,14 @@ int main(void) {
     print_falls(apptbook_falls_on(file, sizeof file, 1, 4868, true));
     print_falls(apptbook_falls_on(file, sizeof file, 1, 4868, apptbook_default_last()));
     print_falls(apptbook_falls_on(file, sizeof file, 2, 4868, true));
+    print_why(apptbook_why(file, sizeof file, 0, 4822, false));
+    print_why(apptbook_why(file, sizeof file, 0, 4823, true));
+    print_why(apptbook_why(file, sizeof file, 1, 4867, true));
+    print_why(apptbook_why(file, sizeof file, 1, 4868, false));
+    print_why(apptbook_why(file, sizeof file, 1, 4868, true));
+    print_why(apptbook_why(file, sizeof file, 2, 4868, true));
+    print_why(apptbook_why(file, sizeof file, 2, 43830, true));
+    print_why(apptbook_why(file, 49, 2, 43830, true));
     print_next(apptbook_next_occurrence(file, sizeof file, 1, 4839, false));
     print_next(apptbook_next_occurrence(file, sizeof file, 1, 4839, true));
     print_next(apptbook_next_occurrence(file, sizeof file, 0, 4823, true));

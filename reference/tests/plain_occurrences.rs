@@ -1,12 +1,12 @@
 //! When a record falls, by the plain reference: set P, and every rule against a third way to find the days.
 
 use reference::book;
-use reference::books::{book_near, edge_day, near, Draft};
-use reference::days::{day_facts, Date, Facts, LAST_DAY};
-use reference::occurrences::{occurrences, soonest, Showing};
+use reference::books::{any_entry, book_near, edge_day};
+use reference::days::{all_facts, Date, Facts, LAST_DAY};
+use reference::occurrences::{occurrences, rules, soonest, Showing};
 use reference::pages::ShortMonth::{self, Last, Skip};
 use reference::pages::{self, Falls, Search, CHOICES};
-use reference::records::{self, Entry, Rule, Times};
+use reference::records::{Entry, Rule, Times};
 use reference::rng::Rng;
 use reference::vectors::every_kind;
 
@@ -19,10 +19,6 @@ fn repeated(rule: Rule, first: Date, last: Date) -> Entry {
 
 fn in_month(rule: Rule, year: u16, month: u16, length: u16) -> Entry {
     repeated(rule, Date { year, month, day: 1 }, Date { year, month, day: length })
-}
-
-fn all_facts() -> Vec<Facts> {
-    (0..=LAST_DAY).map(|day| day_facts(day).expect("a Calendar day")).collect()
 }
 
 /// Both ways agree on every day there is; gives the days, and those of them to which it is moved.
@@ -65,12 +61,7 @@ fn set_p() {
 #[test]
 fn every_rule() {
     let facts = all_facts();
-    let weekly = (1..=7).map(|weekday| Rule::Weekly { weekday });
-    let monthly = (1..=31).map(|day| Rule::MonthlyByDate { day });
-    let position =
-        (1..=5).flat_map(|week| (1..=7).map(move |weekday| Rule::MonthlyByPosition { week, weekday }));
-    let yearly = facts[..366].iter().map(|day| Rule::Yearly { month: day.date.month, day: day.date.day });
-    for rule in weekly.chain(monthly).chain(position).chain(yearly) {
+    for rule in rules() {
         let [(skip, none), (last, moved)] = CHOICES.map(|choice| {
             let [days, moved] = all_days(&repeated(rule, FIRST, END), choice, &facts);
             (days, moved)
@@ -86,17 +77,6 @@ fn every_rule() {
     }
 }
 
-/// A record of that kind: any, or one near a day, which half of them begin or end at.
-fn random_entry(kind: u8, rng: &mut Rng) -> Entry {
-    let draft = if rng.one_in(2) {
-        Draft::random(kind, rng)
-    } else {
-        let day = edge_day(rng);
-        near(day, kind, rng)
-    };
-    records::read(kind, 0, &draft.bytes()[3..]).expect("a right record").entry
-}
-
 #[test]
 fn random_records() {
     let mut rng = Rng::for_test("random_records");
@@ -104,7 +84,7 @@ fn random_records() {
     let (mut days, mut moved) = ([0; 6], [0; 6]);
     for _ in 0..3_000 {
         let kind = rng.within(1..=6);
-        let entry = random_entry(kind as u8, &mut rng);
+        let entry = any_entry(kind as u8, &mut rng);
         for choice in CHOICES {
             let [all, some] = all_days(&entry, choice, &facts);
             days[kind - 1] += all.len();

@@ -10,9 +10,9 @@ use reference::printed;
 use reference::records::Entry;
 use reference::refusal::Refusal;
 use reference::rng::Rng;
-use reference::vectors::moved::{self, Asked};
 use reference::vectors::pages::{self as by_hand, Shown};
-use reference::vectors::WHOLE_CASE;
+use reference::vectors::single::Asked;
+use reference::vectors::{moved, WHOLE_CASE};
 
 #[test]
 fn the_whole_case() {
@@ -49,9 +49,9 @@ fn pages_by_hand() {
 /// No, on its own day, or moved: by the day itself, and in the third way.
 #[test]
 fn answers_by_hand() {
-    for Asked { book, day, falls } in moved::all() {
+    for Asked { book, day, answers } in moved::all() {
         let entry = book::record(&book, 0).expect("a record").entry;
-        for (choice, falls) in CHOICES.into_iter().zip(falls) {
+        for (choice, falls) in CHOICES.into_iter().zip(answers) {
             assert_eq!(pages::falls_on(&book, 0, day, choice), Ok(falls), "{day} {choice:?} {entry:?}");
             let lines = pages::page(&book, day, choice).expect("a right book");
             let moved: Vec<bool> = lines.iter().map(|line| line.moved).collect();

@@ -90,7 +90,7 @@ fn plain(bytes: Vec<u8>) -> String {
 #[test]
 fn the_c_example() {
     let text = readme();
-    let [code, _] = fenced(&text, "c");
+    let [code, ..]: [String; 3] = fenced(&text, "c");
     let folder = folder("example.c");
     fs::write(folder.join("example.c"), code).expect("a file");
     let blocks = indented(&text);
@@ -121,9 +121,25 @@ fn the_rust_example() {
 }
 
 #[test]
+fn the_example_of_reasons() {
+    const REASONS: &str = "4867: skip 8, last 8\n4868: skip 7, last 2\n4869: skip 8, last 8\n";
+    let text = readme();
+    let [_, code, _] = fenced(&text, "c");
+    let folder = folder("why.c");
+    fs::write(folder.join("why.c"), code).expect("a file");
+    let blocks = indented(&text);
+    let at = beginning(&blocks, "cc -Iinclude why.c ");
+    assert!(blocks[at].ends_with("\n./why < examples/monthly.book\n"), "{}", blocks[at]);
+    assert_eq!(plain(shell(&folder, &blocks[at])), REASONS);
+    assert_eq!(blocks[at + 1], REASONS);
+    let of_case = "4867: skip 5, last 5\n4868: skip 5, last 5\n4869: skip 5, last 5\n";
+    assert_eq!(plain(shell(&folder, "./why < examples/case.book\n")), of_case);
+}
+
+#[test]
 fn the_example_of_day_chains() {
     let text = readme();
-    let [_, code] = fenced(&text, "c");
+    let [_, _, code] = fenced(&text, "c");
     let blocks = indented(&text);
     let at = beginning(&blocks, "cc -Iinclude chains.c ");
     assert!(blocks[at].ends_with("\n./chains\n"), "{}", blocks[at]);

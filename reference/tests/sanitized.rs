@@ -3,6 +3,7 @@
 
 use apptbook::raw::book::BookAnswer;
 use apptbook::raw::pages::{CountAnswer, FallsAnswer};
+use apptbook::raw::reasons::ReasonAnswer;
 use reference::answers::IntoAnswer;
 use reference::chains::check_chains;
 use reference::day_chains::{packed, unpacked};
@@ -14,7 +15,7 @@ use reference::rng::Rng;
 use reference::vectors::fillers::filled;
 use reference::vectors::{calendars, chains, every_kind, WHOLE_CASE};
 use reference::writer::{self, NewRecord};
-use reference::{book, calendar, export, notes, pages, printed};
+use reference::{book, calendar, export, notes, pages, printed, reasons};
 use std::fs;
 use std::path::{Path, PathBuf};
 use std::process::{Command, Output};
@@ -52,6 +53,10 @@ impl Hash {
             let choice = if at > 0 { ShortMonth::Last } else { ShortMonth::Skip };
             let answer: FallsAnswer = pages::falls_on(file, number, day, choice).answer();
             self.number(answer.falls.into());
+            for either in CHOICES {
+                let answer: ReasonAnswer = reasons::why(file, number, day, either).answer();
+                self.number(answer.reason.into());
+            }
             let search = pages::next_occurrence(file, number, day, choice).expect("a record");
             self.number(search.looked as usize);
         }
@@ -116,6 +121,8 @@ impl Hash {
         self.refusal(book::note_lines(file, 0));
         self.refusal(book::note_line(file, 0, far));
         self.refusal(pages::falls_on(file, 0, 43_830, Skip));
+        self.refusal(reasons::why(file, 0, 43_830, Skip));
+        self.refusal(reasons::why(file, far, 43_829, Last));
         self.refusal(pages::next_occurrence(file, 0, 65_535, Skip));
         self.refusal(pages::page_lines(file, 43_830, Last));
         self.refusal(pages::page_line(file, 0, Last, far));

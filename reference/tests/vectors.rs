@@ -2,12 +2,13 @@
 
 use apptbook::raw::book::BookAnswer;
 use apptbook::raw::pages::{CountAnswer, FallsAnswer, OccurrenceAnswer, PageLineAnswer};
+use apptbook::raw::reasons::ReasonAnswer;
 use reference::calendar;
 use reference::calls::{Calls, PLAIN, PROVED};
 use reference::cases::{cases, word, Case};
 
 /// The requests that have landed: a case that holds until one of them is left out.
-const LANDED: [u16; 5] = [1, 2, 3, 5, 7];
+const LANDED: [u16; 6] = [1, 2, 3, 5, 7, 8];
 
 /// From the file of this request on, answers tell what is moved.
 const TELLS_MOVED: u16 = 7;
@@ -17,6 +18,7 @@ fn answer(mut case: Case, request: u16, calls: &Calls) -> String {
     let answer = match case.call {
         "read" => read(&mut case, calls),
         "falls" => falls(&mut case, request, calls),
+        "why" => why(&mut case, calls),
         "next" => next(&mut case, calls),
         "page" => page(&mut case, request, calls),
         "line" => line(&mut case, request, calls),
@@ -51,6 +53,31 @@ fn falls(case: &mut Case, request: u16, calls: &Calls) -> String {
     match (calls.falls_on)(&book, record.into(), day, case.choice(calls.default_choice())) {
         FallsAnswer { number: 0, place: 0, falls } => format!("ok {}", words[usize::from(falls)]),
         refusal => refused(refusal.number, refusal.place),
+    }
+}
+
+/// From number 1 on.
+const REASONS: [&str; 10] = [
+    "own-day",
+    "moved",
+    "to-do",
+    "before-start",
+    "after-end",
+    "wrong-month",
+    "month-too-short",
+    "wrong-day-of-month",
+    "wrong-weekday",
+    "wrong-week",
+];
+
+fn why(case: &mut Case, calls: &Calls) -> String {
+    let (book, record, day) = (case.bytes("book"), case.number("record"), case.number("day"));
+    match (calls.why)(&book, record.into(), day, case.choice(calls.default_choice())) {
+        ReasonAnswer { number: 0, place: 0, reason } => format!("ok {}", REASONS[usize::from(reason) - 1]),
+        ReasonAnswer { number, place, reason } => {
+            assert_eq!(reason, 0, "{}: a reason on a refusal", case.name);
+            refused(number, place)
+        }
     }
 }
 
@@ -187,6 +214,7 @@ vectors!(r01, 1, "vectors/r01.txt", 505);
 vectors!(r02, 2, "vectors/r02.txt", 528);
 vectors!(r03, 3, "vectors/r03.txt", 577);
 vectors!(r07, 7, "vectors/r07.txt", 637);
+vectors!(r08, 8, "vectors/r08.txt", 518);
 
 /// What `run` is to find fault with, on the case of document 01.
 mod faults {
@@ -316,6 +344,14 @@ mod faults {
     #[should_panic(expected = "a: ok moved, not ok own")]
     fn a_wrong_word_for_moved() {
         run(&asked("falls\nrecord 0", "ok own"));
+    }
+
+    #[test]
+    #[should_panic(expected = "a: ok moved, not ok month-too-short")]
+    fn a_wrong_reason() {
+        assert_eq!(run(&asked("why\nrecord 0", "ok moved")), 1);
+        assert_eq!(run(&asked("why\nrecord 1", "refused 10 0")), 1);
+        run(&asked("why\nrecord 0", "ok month-too-short"));
     }
 
     #[test]

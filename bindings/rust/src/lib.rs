@@ -26,6 +26,7 @@ mod days;
 mod export;
 mod pages;
 pub mod raw;
+mod reasons;
 mod records;
 pub mod refusals;
 mod writer;
@@ -45,9 +46,10 @@ pub use pages::{
     falls_on, next_occurrence, page_length, page_line, page_lines, print_page, Falls, Occurrence, PageLine,
     ShortMonth,
 };
+pub use reasons::{why, Reason};
 pub use records::{Entry, Record, Rule, Times};
 pub use refusals::Refusal;
 pub use writer::{add, close, open, Writer};
 
 /// `APPTBOOK_VERSION` of the header that this crate follows: raised whenever a call is added or changed.
-pub const VERSION: u32 = 4;
+pub const VERSION: u32 = 5;

@@ -2,6 +2,7 @@
 //! (`examples/case.cal`), and what is refused.
 
 use apptbook::refusals::*;
+use apptbook::Reason::*;
 use apptbook::ShortMonth::{Last, Skip};
 use apptbook::*;
 use std::{fs, ptr};
@@ -51,6 +52,10 @@ fn its_page() {
     assert_eq!(buffer, *b"1993-03-15 Mon 1\n10:00-11:00 Dep\n#######");
     assert_eq!(falls_on(&file, 0, 4_822, Skip), Ok(Falls::OnItsDay));
     assert_eq!(falls_on(&file, 0, 4_823, Skip), Ok(Falls::Not));
+    let why = |record, day| why(&file, record, day, Skip);
+    assert_eq!([4_821, 4_822, 4_823].map(|day| why(0, day)), [BeforeStart, OwnDay, AfterEnd].map(Ok));
+    assert_eq!(why(1, 4_822), refused(NO_SUCH_NUMBER, 0));
+    assert_eq!(why(1, 43_830), refused(OUT_OF_RANGE, 0));
     assert_eq!(next_occurrence(&file, 0, 4_800, Skip), Ok(Occurrence { day: Some(4_822), looked: 23 }));
     assert_eq!(next_occurrence(&file, 0, 43_828, Skip), Ok(Occurrence { day: None, looked: 2 }));
     assert_eq!(page_lines(&file, 43_830, Skip), refused(OUT_OF_RANGE, 0));
@@ -111,12 +116,28 @@ fn short_months() {
     assert_eq!(falls_on(&buffer, 0, 4_868, Last), Ok(Falls::Moved));
     assert_eq!(falls_on(&buffer, 0, 4_899, Last), Ok(Falls::OnItsDay));
     assert_eq!([Falls::Not, Falls::OnItsDay, Falls::Moved].map(Falls::is_shown), [false, true, true]);
+    assert_eq!([Skip, Last].map(|choice| why(&buffer, 0, 4_868, choice)), [MonthTooShort, Moved].map(Ok));
+    assert_eq!([4_898, 4_899].map(|day| why(&buffer, 0, day, Last)), [WrongDay, OwnDay].map(Ok));
     let line = PageLine { record: 0, text: b"", start: 0, end: 0, alarm: false, moved: true };
     assert_eq!(page_line(&buffer, 4_868, Last, 0), Ok(line));
     assert_eq!(page_line(&buffer, 4_899, Last, 0), Ok(PageLine { moved: false, ..line }));
     let mut page = [0; 31];
     assert_eq!(print_page(&buffer, 4_868, Last, &mut page), Ok(31));
     assert_eq!(page, *b"1993-04-30 Fri 1\n00:00-00:00* \n");
+}
+
+/// The paper's words, of which two say that a record is shown.
+#[test]
+fn reasons() {
+    let all = [OwnDay, Moved, IsToDo, BeforeStart, AfterEnd, WrongMonth];
+    let words = all.map(|reason| reason.to_string());
+    assert_eq!(words, ["on its own day", "moved", "is a to-do", "before start", "after end", "wrong month"]);
+    let others = [MonthTooShort, WrongDay, WrongWeekday, WrongWeek];
+    let words = others.map(|reason| reason.to_string());
+    assert_eq!(words, ["month too short", "wrong day of month", "wrong weekday", "wrong week"]);
+    assert_eq!(all.map(Reason::is_shown), [true, true, false, false, false, false]);
+    assert_eq!(others.map(Reason::is_shown), [false; 4]);
+    assert_eq!(format!("{:>9}|{:<6}|", AfterEnd, Moved), "after end|moved |");
 }
 
 #[test]

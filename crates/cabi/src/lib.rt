@@ -5,4 +5,5 @@ pub mod chains_calls;
 pub mod days_calls;
 pub mod export_calls;
 pub mod page_calls;
+pub mod reason_calls;
 pub mod writer_calls;

@@ -11,6 +11,7 @@ use Rattle.book.specs.Lines.{linesAnswer, lineAnswer}
 use Rattle.falls.specs.declared.types.ShortMonth.{ShortMonth}
 use Rattle.pages.specs.Answers.{lineText, pageCount, pageLineAt, nextOccurrence, recordFalls}
 use Rattle.pages.specs.Pages.{Numbered}
+use Rattle.reasons.specs.Answers.{recordWhy}
 use Rattle.printing.specs.Answers.{pageLength, printGives, printLeft}
 use Rattle.export.specs.Export.{exportAnswer, exportLeaves, showsUnder}
 use Rattle.commands.specs.Responses.{response}
@@ -25,8 +26,9 @@ pub record SameAnswers (f g : List ℕ) : Type 0 where
   pub note : (k : ℕ) → recordNoteIn g (recordAnswer g k) ≡ recordNoteIn f (recordAnswer f k)
   pub note-lines : (k : ℕ) → linesAnswer g k ≡ linesAnswer f k
   pub note-line : (k j : ℕ) → lineAnswer g k j ≡ lineAnswer f k j
-  -- falls on, next occurrence
+  -- falls on, why, next occurrence
   pub falls : (d : CalendarDay) (c : ShortMonth) (k : ℕ) → recordFalls g c d k ≡ recordFalls f c d k
+  pub why : (d : CalendarDay) (c : ShortMonth) (k : ℕ) → recordWhy g c d k ≡ recordWhy f c d k
   pub next : (d : CalendarDay) (shows : DayFacts → Numbered → Bool) (k : ℕ) → nextOccurrence shows g d k ≡ nextOccurrence shows f d k
   -- a page: its number of lines, a line and its text; printed: its length, the answer and the buffer
   pub lines : (d : CalendarDay) (shows : DayFacts → Numbered → Bool) → pageCount shows g d ≡ pageCount shows f d

@@ -2,4 +2,5 @@
 pub mod ChainAnswers
 pub mod Examples
 pub mod HandedOn
+pub mod ReasonAnswers
 pub mod RoundTrips

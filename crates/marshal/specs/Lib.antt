@@ -6,6 +6,7 @@ pub mod CountAnswers
 pub mod DayAnswers
 pub mod HandedOn
 pub mod PageAnswers
+pub mod ReasonAnswers
 pub mod RecordAnswers
 pub mod RecordArguments
 pub mod WriterStates

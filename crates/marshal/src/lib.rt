@@ -5,6 +5,7 @@ pub mod count_answers;
 pub mod day_answers;
 pub mod day_facts;
 pub mod page_answers;
+pub mod reason_answers;
 pub mod record_answers;
 pub mod record_arguments;
 pub mod record_kinds;

@@ -5,6 +5,7 @@ use super::drafts::{Draft, Field};
 use super::file::File;
 use crate::civil;
 use crate::days::{day_facts, Date, Facts, LAST_DAY};
+use crate::records::{self, Entry, HEAD};
 use crate::rng::Rng;
 
 const MINUTES: [u16; 6] = [0, 1, 255, 480, 600, 1_439];
@@ -48,7 +49,18 @@ pub fn near(day: u16, kind: u8, rng: &mut Rng) -> Draft {
     draft
 }
 
-/// A book of such records. If the day is its month's last, some want a later one, and last moves them to it.
+/// Of that kind: any record, or one near some day.
+pub fn any_entry(kind: u8, rng: &mut Rng) -> Entry {
+    let draft = if rng.one_in(2) {
+        Draft::random(kind, rng)
+    } else {
+        let day = edge_day(rng);
+        near(day, kind, rng)
+    };
+    records::read(kind, 0, &draft.bytes()[HEAD..]).expect("a right record").entry
+}
+
+/// A book of records near the day. If it is its month's last, some want a later one, and last moves them to it.
 pub fn book_near(day: u16, records: usize, rng: &mut Rng) -> File {
     let Facts { date, month_length, .. } = day_facts(day).expect("a Calendar day");
     let mut record = |_| {

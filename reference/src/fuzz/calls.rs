@@ -4,11 +4,12 @@ use super::look::Look;
 use super::memory::{crashes_show, Pages};
 use super::{chains, dates, files, numbers, writing, Tally};
 use crate::answers::IntoAnswer;
-use crate::pages::{Falls, ShortMonth};
+use crate::pages::{Falls, ShortMonth, CHOICES};
 use crate::rng::Rng;
-use crate::{book, calendar, export, pages, printed};
+use crate::{book, calendar, export, pages, printed, reasons};
 use apptbook::raw;
 use apptbook::raw::pages::CountAnswer;
+use apptbook::raw::reasons::ReasonAnswer;
 
 /// A run of rounds.
 pub struct Fuzz {
@@ -117,6 +118,15 @@ fn showing(look: &mut Look, file: &[u8], rng: &mut Rng) {
     look.at("falls_on", raw::pages::falls_on(file, record, day, choice), falls);
     let next = pages::next_occurrence(file, record, day, choice);
     look.at("next_occurrence", raw::pages::next_occurrence(file, record, day, choice), next);
+    explaining(look, file, [record, rng.below(4) as usize], day);
+}
+
+fn explaining(look: &mut Look, file: &[u8], records: [usize; 2], day: u16) {
+    for (record, choice) in records.into_iter().flat_map(|record| CHOICES.map(|choice| (record, choice))) {
+        let plain: ReasonAnswer = reasons::why(file, record, day, choice).answer();
+        look.tally.reasons[usize::from(plain.reason)] += 1;
+        look.same("why", raw::reasons::why(file, record, day, choice), plain);
+    }
 }
 
 fn opening(look: &mut Look, file: &[u8], rng: &mut Rng) {

@@ -6,6 +6,7 @@ use apptbook::raw::book::{BookAnswer, LineAnswer, LinesAnswer, RecordAnswer};
 use apptbook::raw::calendar::{AppointmentAnswer, DescriptorAnswer};
 use apptbook::raw::days::{DateAnswer, DayAnswer, FactsAnswer, LengthAnswer, WeekdayAnswer};
 use apptbook::raw::pages::{CountAnswer, FallsAnswer, OccurrenceAnswer, PageLineAnswer};
+use apptbook::raw::reasons::ReasonAnswer;
 use apptbook::raw::writer::WriterAnswer;
 use std::fmt::Debug;
 use std::{env, fs};
@@ -32,7 +33,7 @@ answers!(
     RecordAnswer,
     LinesAnswer
 );
-answers!(LineAnswer, WriterAnswer, FallsAnswer, OccurrenceAnswer, CountAnswer, PageLineAnswer);
+answers!(LineAnswer, WriterAnswer, FallsAnswer, ReasonAnswer, OccurrenceAnswer, CountAnswer, PageLineAnswer);
 answers!(DescriptorAnswer, AppointmentAnswer);
 
 impl Answer for bool {

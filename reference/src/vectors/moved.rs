@@ -2,51 +2,15 @@
 //! moved lines.
 
 use super::pages::{END, HEAD};
+use super::single::{asked, dated, from, monthly, position, to, to_do, weekly, yearly, Asked, ALL};
 use crate::pages::Falls::{self, Moved, Not, OnItsDay};
-
-/// A book of one record, a day, and whether it falls there, under skip and under last.
-pub struct Asked {
-    pub book: Vec<u8>,
-    pub day: u16,
-    pub falls: [Falls; 2],
-}
 
 const NONE: [Falls; 2] = [Not, Not];
 const OWN: [Falls; 2] = [OnItsDay, OnItsDay];
 const MOVED: [Falls; 2] = [Not, Moved];
 
-type Dates = [[u8; 3]; 2];
-const ALL: Dates = [[80, 1, 1], [199, 12, 31]];
-
-fn from(date: [u8; 3]) -> Dates {
-    [date, ALL[1]]
-}
-
-fn to(date: [u8; 3]) -> Dates {
-    [ALL[0], date]
-}
-
-/// From 10:00 to 11:00, without a text. `rule`: the fields between state and start minute.
-fn repeated<const N: usize>(kind: u8, rule: [u8; N], [first, last]: Dates) -> Vec<u8> {
-    let head = [kind, 15 + N as u8, 0, 0];
-    [&head[..], &rule, &[0x02, 0x58], &first, &[0x94, 0x02], &last, &[0, 0, 0, 0]].concat()
-}
-
-fn monthly(day: u8, dates: Dates) -> Vec<u8> {
-    repeated(3, [day], dates)
-}
-
-fn yearly(month: u8, day: u8, dates: Dates) -> Vec<u8> {
-    repeated(5, [month, day], dates)
-}
-
-fn asked<const N: usize>(record: Vec<u8>, days: [(u16, [Falls; 2]); N]) -> Vec<Asked> {
-    let book = [HEAD, &record, END].concat();
-    days.map(|(day, falls)| Asked { book: book.clone(), day, falls }).into()
-}
-
 /// February of 1980, 1992, 2000 and 2096 has 29 days, that of 1993 and 2099 has 28; 30 April 1993 is day 4,868.
-fn wanted_days() -> Vec<Vec<Asked>> {
+fn wanted_days() -> Vec<Vec<Asked<Falls>>> {
     vec![
         asked(monthly(1, ALL), [(4_868, NONE), (4_869, OWN), (4_807, NONE)]),
         asked(monthly(28, ALL), [(4_441, OWN), (4_442, NONE), (4_807, OWN), (4_866, OWN), (4_868, NONE)]),
@@ -73,7 +37,7 @@ fn wanted_days() -> Vec<Vec<Asked>> {
 }
 
 /// Spans that begin or end at the day to which a record is moved, and beside it.
-fn spans() -> Vec<Vec<Asked>> {
+fn spans() -> Vec<Vec<Asked<Falls>>> {
     const APRIL_29: [u8; 3] = [93, 4, 29];
     const APRIL_30: [u8; 3] = [93, 4, 30];
     const MAY_1: [u8; 3] = [93, 5, 1];
@@ -96,21 +60,19 @@ fn spans() -> Vec<Vec<Asked>> {
 }
 
 /// The other kinds are never moved: a dated record, Fridays, positions, a to-do, all about 30 April 1993.
-fn other_kinds() -> Vec<Vec<Asked>> {
-    const DATED: &[u8] = &[1, 12, 0, 0, 93, 4, 30, 0x02, 0x58, 0x94, 0x02, 0, 0, 0, 0];
-    const TO_DO: &[u8] = &[6, 11, 0, 0, 1, 93, 4, 30, 0, 0, 0, 0, 0, 0];
+fn other_kinds() -> Vec<Vec<Asked<Falls>>> {
     vec![
-        asked(DATED.to_vec(), [(4_867, NONE), (4_868, OWN), (4_869, NONE)]),
-        asked(repeated(2, [6], ALL), [(4_861, OWN), (4_867, NONE), (4_868, OWN)]),
-        asked(repeated(4, [5, 6], ALL), [(4_861, NONE), (4_868, OWN)]),
+        asked(dated([93, 4, 30]), [(4_867, NONE), (4_868, OWN), (4_869, NONE)]),
+        asked(weekly(6, ALL), [(4_861, OWN), (4_867, NONE), (4_868, OWN)]),
+        asked(position(5, 6, ALL), [(4_861, NONE), (4_868, OWN)]),
         // February and April 1993 have four Sundays; 28 February is the fourth.
-        asked(repeated(4, [4, 1], ALL), [(4_807, OWN), (4_863, OWN)]),
-        asked(repeated(4, [5, 1], ALL), [(4_807, NONE), (4_863, NONE), (4_868, NONE)]),
-        asked(TO_DO.to_vec(), [(4_868, NONE)]),
+        asked(position(4, 1, ALL), [(4_807, OWN), (4_863, OWN)]),
+        asked(position(5, 1, ALL), [(4_807, NONE), (4_863, NONE), (4_868, NONE)]),
+        asked(to_do([93, 4, 30]), [(4_868, NONE)]),
     ]
 }
 
-pub fn all() -> Vec<Asked> {
+pub fn all() -> Vec<Asked<Falls>> {
     [wanted_days(), spans(), other_kinds()].into_iter().flatten().flatten().collect()
 }
 

@@ -9,8 +9,8 @@ use reference::days::{day_of_date, month_length, Date};
 use reference::occurrences::occurrences;
 use reference::pages::ShortMonth::{Last, Skip};
 use reference::pages::{self as plain, Falls, CHOICES};
-use reference::vectors::moved::{self, Asked};
-use reference::vectors::pages;
+use reference::vectors::single::Asked;
+use reference::vectors::{moved, pages};
 use reference::{book, civil};
 
 #[test]
@@ -23,8 +23,8 @@ const NUMBERS: [(Falls, u16); 3] = [(Falls::Not, 0), (Falls::OnItsDay, 1), (Fall
 
 #[test]
 fn answers_by_hand() {
-    for Asked { book, day, falls } in moved::all() {
-        for (choice, falls) in CHOICES.into_iter().zip(falls) {
+    for Asked { book, day, answers } in moved::all() {
+        for (choice, falls) in CHOICES.into_iter().zip(answers) {
             let show = format!("{day} {choice:?} {book:?}");
             let number = NUMBERS.iter().find(|pair| pair.0 == falls).expect("an answer").1;
             let expected = FallsAnswer { number: 0, place: 0, falls: number };

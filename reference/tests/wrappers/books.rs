@@ -4,7 +4,8 @@ use super::{same, same_buffer};
 use apptbook::raw::book::{self as raw_book, BookAnswer, RecordAnswer};
 use apptbook::raw::export as raw_export;
 use apptbook::raw::pages as raw;
-use apptbook::{Book, Date, Entry, Falls, Occurrence, PageLine, Record, Rule, Settings, Times};
+use apptbook::raw::reasons as raw_reasons;
+use apptbook::{Book, Date, Entry, Falls, Occurrence, PageLine, Reason, Record, Rule, Settings, Times};
 use reference::answers::entry_of;
 use reference::fuzz::{numbers, Tally};
 use reference::pages::ShortMonth;
@@ -77,6 +78,14 @@ fn reading(tally: &mut Tally, file: &[u8], record: usize, rng: &mut Rng) {
     assert!(line.is_err() || ptr::eq(line.unwrap(), part(by_raw.at, by_raw.length)), "the line's place");
 }
 
+/// In the header's order, from 1 on.
+fn reason(number: u16) -> Reason {
+    use Reason::*;
+    let all = [OwnDay, Moved, IsToDo, BeforeStart, AfterEnd, WrongMonth, MonthTooShort, WrongDay];
+    let others = [WrongWeekday, WrongWeek];
+    all.into_iter().chain(others).nth(usize::from(number) - 1).expect("a reason")
+}
+
 fn showing(tally: &mut Tally, file: &[u8], record: usize, day: u16, choice: ShortMonth, rng: &mut Rng) {
     tally.add("default_last", 0);
     assert_eq!(ShortMonth::default() == ShortMonth::Last, raw::default_last());
@@ -84,6 +93,8 @@ fn showing(tally: &mut Tally, file: &[u8], record: usize, day: u16, choice: Shor
     same!(tally, "falls_on", apptbook::falls_on(file, record, day, choice), by_raw, answer => {
         [Falls::Not, Falls::OnItsDay, Falls::Moved][usize::from(answer.falls)]
     });
+    let by_raw = raw_reasons::why(file, record, day, choice);
+    same!(tally, "why", apptbook::why(file, record, day, choice), by_raw, answer => reason(answer.reason));
     let next = apptbook::next_occurrence(file, record, day, choice);
     same!(tally, "next_occurrence", next, raw::next_occurrence(file, record, day, choice), answer => {
         Occurrence { day: if answer.found { Some(answer.day) } else { None }, looked: answer.looked }

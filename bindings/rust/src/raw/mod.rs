@@ -12,4 +12,5 @@ pub mod chains;
 pub mod days;
 pub mod export;
 pub mod pages;
+pub mod reasons;
 pub mod writer;

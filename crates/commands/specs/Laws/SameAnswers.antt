@@ -17,6 +17,7 @@ use Rattle.pages.specs.Answers.{validated, fallsIn, pageCountIn, pageLineIn, li
 use Rattle.pages.specs.declared.types.Ready.{Ready}
 use Rattle.pages.specs.declared.types.Validated.{Validated}
 use Rattle.pages.specs.Pages.{fallsOn}
+use Rattle.reasons.specs.Answers.{whyIn}
 use Rattle.printing.specs.Answers.{pageLengthIn, printIn, printLeaves}
 use Rattle.export.specs.Export.{spanAnswer, exportFrom, exportAnswer, exportLeaves, showsUnder}
 use Rattle.commands.specs.Responses.{pageResponse, exportResponse, programRoom, response}
@@ -52,7 +53,7 @@ module _ (f g : List ℕ) (s : SameBook f g) where
   program-same Command.Unknown = rw (s .book)
 
   pub same-answers : SameAnswers f g
-  unfolding fallsIn nextIn pageCountIn pageLineIn lineText pageLengthIn printIn printLeaves exportLeaves
+  unfolding fallsIn whyIn nextIn pageCountIn pageLineIn lineText pageLengthIn printIn printLeaves exportLeaves
   same-answers =
       record {
         book = s .book;
@@ -62,6 +63,7 @@ module _ (f g : List ℕ) (s : SameBook f g) where
         note-lines = note-lines-same f g s;
         note-line = note-line-same f g s;
         falls = λ d c k. on-day d (fallsIn g c k) (fallsIn f c k) (λ a. rw (numbered-same f g s)) (λ e. refl);
+        why = λ d c k. on-day d (whyIn g c k) (whyIn f c k) (λ a. rw (numbered-same f g s)) (λ e. refl);
         next = λ d shows k. on-day d (nextIn shows g k) (nextIn shows f k) (λ a. rw (numbered-same f g s)) (λ e. refl);
         lines = λ d shows. on-day d (pageCountIn shows g) (pageCountIn shows f) (λ a. rw (page-same f g s (shows (a .facts)))) (λ e. refl);
         line = λ d shows k. on-day d (pageLineIn shows g k) (pageLineIn shows f k) (λ a. rw (page-same f g s (shows (a .facts)))) (λ e. refl);

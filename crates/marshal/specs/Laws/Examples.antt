@@ -4,7 +4,7 @@
 use Prim.Native.Nat.{ℕ}
 use mathlib.Core.Path.{_≡_, refl, ap}
 use mathlib.Core.Bool.{Bool, true, false}
-use mathlib.Core.List.{List, [], _∷_}
+use mathlib.Core.List.{List, [], _∷_, map}
 use Rattle.days.specs.declared.answers.FactsAnswer.{FactsAnswer}
 use Rattle.records.specs.Laws.Layouts.{weeklyRecord, monthlyByDateRecord, monthlyByPositionRecord, yearlyRecord, toDoRecord}
 use Rattle.book.specs.Books.{bookOf, recordAnswer}
@@ -12,9 +12,11 @@ use Rattle.book.specs.Laws.Examples.{case, case-accepted, case-record}
 use Rattle.book.specs.declared.types.Entry.{Entry}
 use Rattle.falls.specs.declared.types.Falling.{Falling}
 use Rattle.pages.specs.declared.types.FallsAnswer.{FallsAnswer}
+use Rattle.reasons.specs.Holds.{inOrder}
 use Rattle.marshal.specs.BookAnswers.{bookOut}
 use Rattle.marshal.specs.DayAnswers.{factsOut}
 use Rattle.marshal.specs.PageAnswers.{fallingOut, fallsOut}
+use Rattle.marshal.specs.ReasonAnswers.{reasonNumber}
 use Rattle.marshal.specs.RecordAnswers.{recordWith, datedOut, repeatOut, toDoOut, checkedOut, kindOut, recordOut}
 use Rattle.marshal.specs.declared.record_answers.RecordOut.{RecordOut}
 
@@ -63,6 +65,12 @@ pub falls-out :
     (fallsOut (FallsAnswer.Falls Falling.No) ≡ record { number = 0; place = 0; falls = 0 }) × (fallsOut (FallsAnswer.Falls Falling.Own) ≡ record { number = 0; place = 0; falls = 1 }) × (fallsOut (FallsAnswer.Falls Falling.Moved) ≡ record { number = 0; place = 0; falls = 2 })
 unfolding fallsOut fallingOut
 falls-out = (refl, refl, refl)
+
+-- the header's numbers of the reasons, in the request's order
+pub reasons-out :
+    map reasonNumber inOrder ≡ 1 ∷ 2 ∷ 3 ∷ 4 ∷ 5 ∷ 6 ∷ 7 ∷ 8 ∷ 9 ∷ 10 ∷ []
+unfolding reasonNumber
+reasons-out = refl
 
 module _ (e : Entry) where
   -- Tuesdays

@@ -64,6 +64,16 @@ pub validated-ready : (f : List ℕ) (n : CalendarDay) {a : Ready} → validated
 unfolding validated
 validated-ready f n e = from-book f n (bookOf f) refl e
 
+day-facts : (n : CalendarDay) (b : BookAnswer) {a : Ready} → validatedDay n b ≡ Validated.Ready a → a .facts ≡ factsOf (n .0)
+unfolding validatedDay
+day-facts n (BookAnswer.Accepted b) e = ap (λ (z : Ready). z .facts) (sym (ready-inj (lt-skip lastDay (n .0) _ _ refused-not e .1)))
+day-facts n (BookAnswer.Refused r) e = absurd (refused-not e)
+
+-- and its facts are those of the day that was asked about
+pub validated-day-facts : (f : List ℕ) (n : CalendarDay) {a : Ready} → validated f n ≡ Validated.Ready a → a .facts ≡ factsOf (n .0)
+unfolding validated
+validated-day-facts f n e = day-facts n (bookOf f) e
+
 -- "then 11" is what the day layer says of the day
 unfoldable pub withFacts : ℕ → FactsAnswer → Validated
 withFacts n (FactsAnswer.Facts d) = Validated.Ready (record { records = n; facts = d })

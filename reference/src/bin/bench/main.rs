@@ -11,6 +11,7 @@ mod chains;
 mod days;
 mod exports;
 mod pages;
+mod reasons;
 mod table;
 mod writings;
 
@@ -50,6 +51,7 @@ const GROUPS: &[fn() -> Vec<Row>] = &[
     books::rows,
     writings::rows,
     pages::rows,
+    reasons::rows,
     calendars::rows,
     exports::rows,
     chains::rows,

@@ -14,9 +14,9 @@ use reference::rng::Rng;
 use std::cell::RefCell;
 
 const CALLS: usize = 20;
-const DAY: u16 = 4_822;
+pub const DAY: u16 = 4_822;
 /// To which records of the 31st are moved.
-const APRIL_30: u16 = 4_868;
+pub const APRIL_30: u16 = 4_868;
 
 /// Of a row about that day.
 const fn choice(day: u16) -> ShortMonth {
@@ -33,14 +33,14 @@ type Book = fn() -> &'static [u8];
 type Asked = (&'static [u8], usize, u16);
 
 /// Twelve records of any kinds, most of which fall on the day.
-fn small_book() -> &'static [u8] {
+pub fn small_book() -> &'static [u8] {
     let mut file = book_near(DAY, 12, &mut Rng::new(1));
     file.fill(0);
     kept(file.bytes)
 }
 
 /// Of 65,535 bytes: small records of all kinds, any dates.
-fn full_book() -> &'static [u8] {
+pub fn full_book() -> &'static [u8] {
     let mut rng = Rng::new(1);
     kept(File::full(LONGEST, || small(rng.within(1..=6) as u8, &mut rng)).bytes)
 }
@@ -59,12 +59,12 @@ fn full_of(kind: u8, values: &[(Field, &[u8])]) -> &'static [u8] {
 }
 
 /// Dated ones, all on the same day.
-fn one_day() -> &'static [u8] {
+pub fn one_day() -> &'static [u8] {
     full_of(1, &[(Field::Date, &[93, 3, 15])])
 }
 
 /// Of each 31st.
-fn all_moved() -> &'static [u8] {
+pub fn all_moved() -> &'static [u8] {
     full_of(3, &[(Field::Day, &[31]), (Field::Dates, &[80, 1, 1, 199, 12, 31])])
 }
 
@@ -85,7 +85,7 @@ fn leap_day() -> &'static [u8] {
     single(5, Field::MonthAndDay, &[2, 29], [196, 1, 1, 199, 12, 31])
 }
 
-fn records(file: &[u8]) -> usize {
+pub fn records(file: &[u8]) -> usize {
     book::read_book(file).expect("a right book").records
 }
 
