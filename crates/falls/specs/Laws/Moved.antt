@@ -42,15 +42,31 @@ module _ (c : ShortMonth) (f : DayFacts) (day : ℕ) (h : onDay c f day ≡ true
       let l = lt-skip (f .length) day true false true≢false m .0 in
       eq-take (f .date .day) day true false false≢true (sym (is-ge l _ _) ∙ h) .0
 
-  on-last : ifLt (f .length) day true false ≡ true → (c ≡ ShortMonth.Last) × (f .date .day ≡ f .length) × (f .length < day)
+  on-last : f .length < day → (c ≡ ShortMonth.Last) × (f .date .day ≡ f .length)
   unfolding onDay
-  on-last m =
-      let l = lt-take (f .length) day true false false≢true m .0 in
-      let k = missing-last c f (sym (is-lt l _ _) ∙ h) in
-      (k .0, k .1, l)
+  on-last l = missing-last c f (sym (is-lt l _ _) ∙ h)
 
-past-none : (n : ℕ) → ifLt n 0 true false ≡ true → ⊥
-past-none n m = let l = lt-take n 0 true false false≢true m .0 in omega arith
+none-past : (n : ℕ) → ifLt n 0 true false ≡ true → ⊥
+none-past n m = let l = lt-take n 0 true false false≢true m .0 in omega arith
+
+-- the test for a missing day says that the record names one, which is missing
+pub missing-names : (f : DayFacts) (r : Record) → dayMissing f r ≡ true → NamesMissing f r
+unfolding dayMissing namedDay
+missing-names f (Record.Dated d) m = none-past (f .length) m
+missing-names f (Record.Weekly w) m = none-past (f .length) m
+missing-names f (Record.MonthlyByDate x) m = lt-take (f .length) (x .day) true false false≢true m .0
+missing-names f (Record.MonthlyByPosition x) m = none-past (f .length) m
+missing-names f (Record.Yearly y) m = lt-take (f .length) (y .day) true false false≢true m .0
+missing-names f (Record.ToDo t) m = none-past (f .length) m
+
+pub names-missing : (f : DayFacts) (r : Record) → NamesMissing f r → dayMissing f r ≡ true
+unfolding dayMissing namedDay
+names-missing f (Record.Dated d) z = absurd z
+names-missing f (Record.Weekly w) z = absurd z
+names-missing f (Record.MonthlyByDate x) l = is-lt l _ _
+names-missing f (Record.MonthlyByPosition x) z = absurd z
+names-missing f (Record.Yearly y) l = is-lt l _ _
+names-missing f (Record.ToDo t) z = absurd z
 
 own-named : (c : ShortMonth) (f : DayFacts) (r : Record) → falls c f r ≡ true → dayMissing f r ≡ false → OnNamedDay f r
 unfolding falls namedDay dayMissing byDateFalls yearlyFalls
@@ -63,23 +79,22 @@ own-named c f (Record.Yearly y) t m =
 own-named c f (Record.ToDo x) t m = tt
 
 moved-last :
-    (c : ShortMonth) (f : DayFacts) (r : Record) → falls c f r ≡ true → dayMissing f r ≡ true
-    → (c ≡ ShortMonth.Last) × (f .date .day ≡ f .length) × NamesMissing f r
-unfolding falls namedDay dayMissing byDateFalls yearlyFalls
-moved-last c f (Record.Dated d) t m = absurd (past-none (f .length) m)
-moved-last c f (Record.Weekly w) t m = absurd (past-none (f .length) m)
-moved-last c f (Record.MonthlyByDate x) t m = on-last c f (x .day) (b-take (onDay c f (x .day)) _ _ false≢true t .0) m
-moved-last c f (Record.MonthlyByPosition x) t m = absurd (past-none (f .length) m)
-moved-last c f (Record.Yearly y) t m =
-    on-last c f (y .day) (b-take (onDay c f (y .day)) _ _ false≢true (eq-take (f .date .month) (y .month) _ _ false≢true t .1) .0) m
-moved-last c f (Record.ToDo x) t m = absurd (past-none (f .length) m)
+    (c : ShortMonth) (f : DayFacts) (r : Record) → falls c f r ≡ true → NamesMissing f r → (c ≡ ShortMonth.Last) × (f .date .day ≡ f .length)
+unfolding falls byDateFalls yearlyFalls
+moved-last c f (Record.Dated d) t z = absurd z
+moved-last c f (Record.Weekly w) t z = absurd z
+moved-last c f (Record.MonthlyByDate x) t l = on-last c f (x .day) (b-take (onDay c f (x .day)) _ _ false≢true t .0) l
+moved-last c f (Record.MonthlyByPosition x) t z = absurd z
+moved-last c f (Record.Yearly y) t l =
+    on-last c f (y .day) (b-take (onDay c f (y .day)) _ _ false≢true (eq-take (f .date .month) (y .month) _ _ false≢true t .1) .0) l
+moved-last c f (Record.ToDo x) t z = absurd z
 
 -- each answer is true
 pub falling-says : (c : ShortMonth) (f : DayFacts) (r : Record) → Says c f r (falling c f r)
 unfolding falling
 falling-says c f r =
     b-elim (Says c f r) (falls c f r) _ _
-    (λ t. b-elim (Says c f r) (dayMissing f r) _ _ (λ m. let k = moved-last c f r t m in (t, k .0, k .1, k .2)) (λ m. (t, own-named c f r t m)))
+    (λ t. b-elim (Says c f r) (dayMissing f r) _ _ (λ m. let l = missing-names f r m in let k = moved-last c f r t l in (t, k .0, k .1, l)) (λ m. (t, own-named c f r t m)))
     (λ t. t)
 
 -- of a record that falls, the missing day alone decides

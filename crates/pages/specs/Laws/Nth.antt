@@ -35,6 +35,13 @@ module _ {A X : Type 0} (none : X) (some : A → X) where
   nth-map g (x ∷ xs) zero = refl
   nth-map g (x ∷ xs) (suc k) = nth-map g xs k
 
+-- a function of the element at a number
+pub nth-through : {A X Y : Type 0} (h : X → Y) (xs : List A) (k : ℕ) (none : X) (some : A → X) → h (nth xs k none some) ≡ nth xs k (h none) (λ x. h (some x))
+unfolding nth
+nth-through h [] k none some = refl
+nth-through h (x ∷ xs) zero none some = refl
+nth-through h (x ∷ xs) (suc k) none some = nth-through h xs k none some
+
 pub length-from : (n : ℕ) (es : List Entry) → length (numberedFrom n es) ≡ length es
 unfolding numberedFrom
 length-from n [] = refl

@@ -1,7 +1,7 @@
 -- Document 02, R-8, over the questions: "shown" exactly when the page has the record, what the answer of `why` promises, and that
 -- it agrees with the question of R-7 and with the page's lines.
 -- Assumes nothing.
-use Prim.Native.Nat.{ℕ, zero, suc, _<_, _≤_}
+use Prim.Native.Nat.{ℕ, _<_, _≤_}
 use mathlib.Core.Path.{_≡_, refl, sym, _∙_, ap, subst}
 use mathlib.Core.Bool.{Bool, true, false}
 use mathlib.Core.List.{List, [], _∷_}
@@ -26,7 +26,7 @@ use Rattle.pages.specs.Pages.{numbered, fallsOn, pageOn, nth}
 use Rattle.pages.specs.Answers.{validated, fallsIn, recordFalls, pageLineAt}
 use Rattle.pages.specs.Invariants.{ReadyBook, recordAt}
 use Rattle.pages.specs.Laws.Moved.{line-falling}
-use Rattle.pages.specs.Laws.Nth.{nth-record, nth-no-record}
+use Rattle.pages.specs.Laws.Nth.{nth-record, nth-no-record, nth-through}
 use Rattle.pages.specs.Laws.PageFacts.{ofNumber, page-once}
 use Rattle.pages.specs.Laws.Pages.{validated-ready, validated-day-facts}
 use Rattle.pages.specs.declared.types.FallsAnswer.{FallsAnswer}
@@ -133,12 +133,6 @@ why-promised f c n k = why-explained f c k (factsOf (n .0)) (validated f n) (λ 
 unfoldable pub fallingAnswer : ReasonAnswer → FallsAnswer
 fallingAnswer (ReasonAnswer.Reason q) = FallsAnswer.Falls (fallingFor q)
 fallingAnswer (ReasonAnswer.Refused e) = FallsAnswer.Refused e
-
-nth-through : {A X Y : Type 0} (h : X → Y) (xs : List A) (k : ℕ) (none : X) (some : A → X) → h (nth xs k none some) ≡ nth xs k (h none) (λ x. h (some x))
-unfolding nth
-nth-through h [] k none some = refl
-nth-through h (x ∷ xs) zero none some = refl
-nth-through h (x ∷ xs) (suc k) none some = nth-through h xs k none some
 
 why-falls-in : (f : List ℕ) (c : ShortMonth) (k : ℕ) (v : Validated) → fallingAnswer (whyIn f c k v) ≡ fallsIn f c k v
 unfolding whyIn fallsIn fallingAnswer

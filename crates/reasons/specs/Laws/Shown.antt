@@ -11,11 +11,11 @@ use Rattle.records.specs.declared.types.Repeat.{Repeat}
 use Rattle.records.specs.declared.types.Record.{Record}
 use Rattle.falls.specs.Falls.{datedFalls, inSpan, weeklyFalls, weekOfMonth, byPositionFalls, onDay, byDateFalls, yearlyFalls, falls}
 use Rattle.falls.specs.Moved.{dayMissing, falling, OnNamedDay, Says}
-use Rattle.falls.specs.Laws.Moved.{falling-says, falling-missing}
+use Rattle.falls.specs.Laws.Moved.{falling-says, falling-missing, names-missing}
 use Rattle.falls.specs.declared.types.Falling.{Falling}
 use Rattle.falls.specs.declared.types.ShortMonth.{ShortMonth}
 use Rattle.reasons.specs.Holds.{Holds}
-use Rattle.reasons.specs.Laws.Tests.{earlier-no, later-no, other-no, names-missing}
+use Rattle.reasons.specs.Laws.Tests.{earlier-no, later-no, other-no}
 use Rattle.reasons.specs.Reasons.{firstDate, lastDate, ownMonth, ownDay, ownWeekday, ownWeek, isEarlier, isLater, isOther, isToDo, saysShown}
 use Rattle.reasons.specs.declared.types.Reason.{Reason}
 

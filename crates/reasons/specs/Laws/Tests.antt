@@ -4,13 +4,12 @@ use Prim.Native.Nat.{ℕ}
 use mathlib.Core.Path.{_≡_, refl, sym, _∙_}
 use mathlib.Core.Bool.{true, false, true≢false, false≢true}
 use mathlib.Core.Option.{Option, none, some}
-use native.Mathlib.Omega.{arith}
-use Rattle.prelude.specs.Choice.{ifLt, ifEq}
-use Rattle.prelude.specs.Laws.Choice.{constructors-differ, is-lt, is-eq, eq-take, eq-skip, lt-take}
+use Rattle.prelude.specs.Choice.{ifEq}
+use Rattle.prelude.specs.Laws.Choice.{constructors-differ, is-eq, eq-take, eq-skip}
 use Rattle.days.specs.declared.types.Date.{Date}
 use Rattle.days.specs.declared.types.DayFacts.{DayFacts}
 use Rattle.records.specs.declared.types.Record.{Record}
-use Rattle.falls.specs.Moved.{namedDay, dayMissing, NamesMissing}
+use Rattle.falls.specs.Laws.Moved.{missing-names, names-missing}
 use Rattle.falls.specs.declared.types.ShortMonth.{ShortMonth}
 use Rattle.reasons.specs.Holds.{Earlier, Later, Differs, Holds}
 use Rattle.reasons.specs.Reasons.{isEarlier, isLater, isOther, isTooShort}
@@ -50,31 +49,10 @@ unfolding isOther
 other-no n none h z = z
 other-no n (some m) h z = z (same-by n m h)
 
-none-missing : (n : ℕ) → ifLt n 0 true false ≡ true → ⊥
-none-missing n h = let l = lt-take n 0 true false false≢true h .0 in omega arith
-
-missing-yes : (f : DayFacts) (r : Record) → dayMissing f r ≡ true → NamesMissing f r
-unfolding dayMissing namedDay
-missing-yes f (Record.Dated d) h = absurd (none-missing (f .length) h)
-missing-yes f (Record.Weekly w) h = absurd (none-missing (f .length) h)
-missing-yes f (Record.MonthlyByDate m) h = lt-take (f .length) (m .day) true false false≢true h .0
-missing-yes f (Record.MonthlyByPosition m) h = absurd (none-missing (f .length) h)
-missing-yes f (Record.Yearly y) h = lt-take (f .length) (y .day) true false false≢true h .0
-missing-yes f (Record.ToDo t) h = absurd (none-missing (f .length) h)
-
-pub names-missing : (f : DayFacts) (r : Record) → NamesMissing f r → dayMissing f r ≡ true
-unfolding dayMissing namedDay
-names-missing f (Record.Dated d) z = absurd z
-names-missing f (Record.Weekly w) z = absurd z
-names-missing f (Record.MonthlyByDate m) l = is-lt l _ _
-names-missing f (Record.MonthlyByPosition m) z = absurd z
-names-missing f (Record.Yearly y) l = is-lt l _ _
-names-missing f (Record.ToDo t) z = absurd z
-
 pub short-yes : (c : ShortMonth) (f : DayFacts) (r : Record) → isTooShort c f r ≡ true → Holds c f r Reason.MonthTooShort
 unfolding isTooShort
 short-yes ShortMonth.Skip f r h =
-    let e = eq-take (f .date .day) (f .length) _ _ false≢true h in (refl, e .0, missing-yes f r (e .1))
+    let e = eq-take (f .date .day) (f .length) _ _ false≢true h in (refl, e .0, missing-names f r (e .1))
 short-yes ShortMonth.Last f r h = absurd (false≢true h)
 
 pub short-no : (c : ShortMonth) (f : DayFacts) (r : Record) → isTooShort c f r ≡ false → Holds c f r Reason.MonthTooShort → ⊥
