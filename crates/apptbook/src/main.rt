@@ -1,4 +1,6 @@
 // The program: a book on standard input, a command in its arguments, the answer on standard output.
+#![tactic(auto)]
+
 ghost use Rattle.std.specs.Prelude.{◌≡◌, ◌-◌};
 
 use commands::parsing::{command_of, word_of};

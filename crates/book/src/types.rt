@@ -10,7 +10,7 @@ pub const MOST_BOOK_BYTES: usize = 65535;
 pub const MOST_RECORDS: usize = 4680;
 
 // The book's settings, document 01 "Settings".
-#[derive(Drop)]
+#[derive(Clone, Copy)]
 pub struct Settings {
     pub start: Minute,
     pub granularity: u16,
@@ -20,20 +20,20 @@ pub struct Settings {
 }
 
 // An accepted book: its settings, and how many records it has, to-dos among them and the end record not.
-#[derive(Drop)]
+#[derive(Clone, Copy)]
 pub struct Book {
     pub settings: Settings,
     pub records: usize,
 }
 
-#[derive(Drop)]
+#[derive(Clone, Copy)]
 pub enum BookAnswer {
     Accepted(Book),
     Refused(Refusal),
 }
 
 // What stands at a record's place: a record with the next place, the end record, or a refusal.
-#[derive(Drop)]
+#[derive(Clone, Copy)]
 pub enum StepAnswer {
     Record(usize),
     End,
@@ -41,7 +41,7 @@ pub enum StepAnswer {
 }
 
 // A record with its own place in the file, and the stretches of its text and note.
-#[derive(Drop)]
+#[derive(Clone, Copy)]
 pub struct Entry {
     pub place: usize,
     pub record: Record,
@@ -50,20 +50,20 @@ pub struct Entry {
 }
 
 // The stretches of a record's text and note.
-#[derive(Drop)]
+#[derive(Clone, Copy)]
 pub struct Texts {
     pub text: Stretch,
     pub note: Stretch,
 }
 
-#[derive(Drop)]
+#[derive(Clone, Copy)]
 pub enum RecordAnswer {
     Record(Entry),
     Refused(Refusal),
 }
 
 // A stretch of the file: a note, or a line of one.
-#[derive(Drop)]
+#[derive(Clone, Copy)]
 pub enum StretchAnswer {
     Stretch(Stretch),
     Refused(Refusal),

@@ -1,4 +1,6 @@
 // The static library: the calls that C and Rust link. include/apptbook.h is its header; how answers cross is in crate marshal.
+#![tactic(auto)]
+
 pub mod book_calls;
 pub mod calendar_calls;
 pub mod chains_calls;

@@ -6,7 +6,7 @@ use prelude::slices::Stretch;
 pub const LAST_BLOCK: usize = 32767;
 
 // The six settings of the head, as stored: early ring in minutes, sound, interval code and interval in minutes, 24-hour flag, start minute.
-#[derive(Drop)]
+#[derive(Clone, Copy)]
 pub struct CalendarSettings {
     pub ring: u16,
     pub sound: u16,
@@ -17,34 +17,34 @@ pub struct CalendarSettings {
 }
 
 // A descriptor's day and block offset, as stored.
-#[derive(Drop)]
+#[derive(Clone, Copy)]
 pub struct Descriptor {
     pub day: CalendarDay,
     pub offset: u16,
 }
 
-#[derive(Drop)]
+#[derive(Clone, Copy)]
 pub enum DescriptorAnswer {
     Descriptor(Descriptor),
     Refused(Refusal),
 }
 
 // An appointment as read: its minute, its flags, and where its text lies in the file.
-#[derive(Drop)]
+#[derive(Clone, Copy)]
 pub struct StoredAppointment {
     pub minute: Minute,
     pub flags: u16,
     pub text: Stretch,
 }
 
-#[derive(Drop)]
+#[derive(Clone, Copy)]
 pub enum AppointmentAnswer {
     Appointment(StoredAppointment),
     Refused(Refusal),
 }
 
 // Where a day's list of appointments lies: its first byte's place, and the place behind it.
-#[derive(Drop)]
+#[derive(Clone, Copy)]
 pub struct Span {
     pub from: usize,
     pub end: usize,

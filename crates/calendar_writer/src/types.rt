@@ -6,7 +6,7 @@ pub const MOST_DAYS: usize = 366;
 pub const MOST_COUNT: u16 = 366;
 
 // The file's length, its descriptors and its appointments, and whether a block would start at block 32,768 or later.
-#[derive(Drop)]
+#[derive(Clone, Copy)]
 pub struct Measure {
     pub length: usize,
     pub descriptors: usize,

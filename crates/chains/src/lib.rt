@@ -1,4 +1,6 @@
 // HP 200LX day chains: the Single Occurrence Table and the chains of records, checked as request R-2 says.
+#![tactic(auto)]
+
 pub mod checking;
 mod heads;
 mod links;

@@ -5,7 +5,7 @@ use falls::types::ShortMonth;
 pub const PROGRAM_ROOM: usize = 65536;
 
 // Numbers past 65,535 are all 65,536.
-#[derive(Drop)]
+#[derive(Clone, Copy)]
 pub enum Word {
     Number(u32),
     Skip,
@@ -14,7 +14,7 @@ pub enum Word {
 }
 
 // The page of a day; the export of a first day and a count of days; or anything else.
-#[derive(Drop)]
+#[derive(Clone, Copy)]
 pub enum Command {
     Page(u32, ShortMonth),
     Export(u32, u32, ShortMonth),

@@ -8,14 +8,14 @@ ghost use Rattle.days.specs.Table.{Starts, StartsFrom};
 use crate::table::table;
 
 // A month, counted from January 1980 = 0, and the day on which it starts.
-#[derive(Drop)]
+#[derive(Clone, Copy)]
 pub struct Month {
     pub number: usize,
     pub start: u16,
 }
 
 // 45 months from month `first` on, and the days on which they start.
-#[derive(Drop)]
+#[derive(Clone, Copy)]
 struct Rest {
     first: usize,
     starts: [u16; 45],

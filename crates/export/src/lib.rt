@@ -1,4 +1,6 @@
 // The export: a book and a span of days into a lent buffer as a Calendar file, measured before it is filled.
+#![tactic(auto)]
+
 pub mod calls;
 mod collecting;
 mod deciding;

@@ -4,7 +4,7 @@ use days::types::DayFacts;
 use falls::types::ShortMonth;
 
 // An accepted book, the first day of a span, and the choice for short months.
-#[derive(Drop)]
+#[derive(Clone, Copy)]
 pub struct Request {
     pub book: Book,
     pub first: DayFacts,

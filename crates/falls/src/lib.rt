@@ -1,4 +1,6 @@
 // When a record falls on a day, document 01: the rules of the six kinds and the short-month choice.
+#![tactic(auto)]
+
 pub mod choice;
 pub mod moved;
 pub mod rules;

@@ -2,14 +2,14 @@
 use days::types::Minute;
 
 // Document 01 "short-month choice": what becomes of a day that its month does not have.
-#[derive(Drop)]
+#[derive(Clone, Copy)]
 pub enum ShortMonth {
     Skip,
     Last,
 }
 
 // Document 02, R-7: whether a record falls on a day: not, on its own day, or moved to the month's last day.
-#[derive(Drop)]
+#[derive(Clone, Copy)]
 pub enum Falling {
     No,
     Own,
@@ -17,7 +17,7 @@ pub enum Falling {
 }
 
 // A record's times and its alarm mark.
-#[derive(Drop)]
+#[derive(Clone, Copy)]
 pub struct Times {
     pub start: Minute,
     pub end: Minute,

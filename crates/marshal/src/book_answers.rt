@@ -6,7 +6,7 @@ use book::types::{BookAnswer, Settings, StretchAnswer};
 use days::types::Minute;
 
 #[repr(C)]
-#[derive(Drop)]
+#[derive(Clone, Copy)]
 pub struct BookOut {
     pub number: u32,
     pub place: usize,
@@ -19,7 +19,7 @@ pub struct BookOut {
 }
 
 #[repr(C)]
-#[derive(Drop)]
+#[derive(Clone, Copy)]
 pub struct LineOut {
     pub number: u32,
     pub place: usize,

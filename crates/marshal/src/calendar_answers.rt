@@ -5,7 +5,7 @@ ghost use Rattle.marshal.specs.CalendarAnswers.{descriptor_out, appointment_out}
 use calendar::types::{AppointmentAnswer, DescriptorAnswer};
 
 #[repr(C)]
-#[derive(Drop)]
+#[derive(Clone, Copy)]
 pub struct DescriptorOut {
     pub number: u32,
     pub place: usize,
@@ -14,7 +14,7 @@ pub struct DescriptorOut {
 }
 
 #[repr(C)]
-#[derive(Drop)]
+#[derive(Clone, Copy)]
 pub struct AppointmentOut {
     pub number: u32,
     pub place: usize,

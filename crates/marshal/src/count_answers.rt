@@ -6,7 +6,7 @@ use prelude::answers::{CountAnswer, ListAnswer};
 use prelude::refusals::NO_ROOM;
 
 #[repr(C)]
-#[derive(Drop)]
+#[derive(Clone, Copy)]
 pub struct CountOut {
     pub number: u32,
     pub place: usize,

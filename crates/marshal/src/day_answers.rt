@@ -5,7 +5,7 @@ ghost use Rattle.marshal.specs.DayAnswers.{length_out, day_out, psion_out, date_
 use days::answers::{DateAnswer, DayAnswer, LengthAnswer, PsionAnswer, WeekdayAnswer};
 
 #[repr(C)]
-#[derive(Drop)]
+#[derive(Clone, Copy)]
 pub struct LengthOut {
     pub number: u32,
     pub place: usize,
@@ -13,7 +13,7 @@ pub struct LengthOut {
 }
 
 #[repr(C)]
-#[derive(Drop)]
+#[derive(Clone, Copy)]
 pub struct DayOut {
     pub number: u32,
     pub place: usize,
@@ -21,7 +21,7 @@ pub struct DayOut {
 }
 
 #[repr(C)]
-#[derive(Drop)]
+#[derive(Clone, Copy)]
 pub struct DateOut {
     pub number: u32,
     pub place: usize,
@@ -31,7 +31,7 @@ pub struct DateOut {
 }
 
 #[repr(C)]
-#[derive(Drop)]
+#[derive(Clone, Copy)]
 pub struct WeekdayOut {
     pub number: u32,
     pub place: usize,

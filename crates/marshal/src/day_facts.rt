@@ -6,7 +6,7 @@ use days::answers::FactsAnswer;
 use days::types::{CalendarDay, Date, DayFacts};
 
 #[repr(C)]
-#[derive(Drop)]
+#[derive(Clone, Copy)]
 pub struct FactsOut {
     pub number: u32,
     pub place: usize,

@@ -1,4 +1,6 @@
 // Answers and arguments as they cross C: one repr(C) struct an answer, number 0 and the values, or the refusal with every value 0.
+#![tactic(auto)]
+
 pub mod book_answers;
 pub mod calendar_answers;
 pub mod count_answers;

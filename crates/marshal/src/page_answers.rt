@@ -6,7 +6,7 @@ use falls::types::{Falling, ShortMonth};
 use pages::types::{FallsAnswer, LineAnswer, NextAnswer};
 
 #[repr(C)]
-#[derive(Drop)]
+#[derive(Clone, Copy)]
 pub struct FallsOut {
     pub number: u32,
     pub place: usize,
@@ -14,7 +14,7 @@ pub struct FallsOut {
 }
 
 #[repr(C)]
-#[derive(Drop)]
+#[derive(Clone, Copy)]
 pub struct PageLineOut {
     pub number: u32,
     pub place: usize,
@@ -28,7 +28,7 @@ pub struct PageLineOut {
 }
 
 #[repr(C)]
-#[derive(Drop)]
+#[derive(Clone, Copy)]
 pub struct OccurrenceOut {
     pub number: u32,
     pub place: usize,

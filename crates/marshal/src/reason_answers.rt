@@ -5,7 +5,7 @@ ghost use Rattle.marshal.specs.ReasonAnswers.{reason_number, reason_out};
 use reasons::types::{Reason, ReasonAnswer};
 
 #[repr(C)]
-#[derive(Drop)]
+#[derive(Clone, Copy)]
 pub struct ReasonOut {
     pub number: u32,
     pub place: usize,

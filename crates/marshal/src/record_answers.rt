@@ -6,7 +6,7 @@ use book::types::Entry;
 use days::types::Date;
 
 #[repr(C)]
-#[derive(Drop)]
+#[derive(Clone, Copy)]
 pub struct RecordOut {
     pub number: u32,
     pub place: usize,
@@ -38,7 +38,7 @@ pub struct RecordOut {
 }
 
 // The numbers that some kinds of records have and others have not.
-#[derive(Drop)]
+#[derive(Clone, Copy)]
 pub struct Numbers {
     pub weekday: u16,
     pub week: u16,

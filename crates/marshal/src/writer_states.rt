@@ -5,7 +5,7 @@ ghost use Rattle.marshal.specs.WriterStates.{writer_out, writer_in};
 use writer::types::{WriteAnswer, Writer};
 
 #[repr(C)]
-#[derive(Drop)]
+#[derive(Clone, Copy)]
 pub struct WriterOut {
     pub number: u32,
     pub place: usize,

@@ -5,20 +5,20 @@ use prelude::refusals::Refusal;
 use prelude::slices::Stretch;
 
 // An accepted book's number of records, and the facts of a day in range.
-#[derive(Drop)]
+#[derive(Clone, Copy)]
 pub struct Ready {
     pub records: usize,
     pub facts: DayFacts,
 }
 
-#[derive(Drop)]
+#[derive(Clone, Copy)]
 pub enum Validated {
     Ready(Ready),
     Refused(Refusal),
 }
 
 // What a page lists of a record: its times, its alarm mark, the day of the month that it names or 0, and where its text lies.
-#[derive(Drop)]
+#[derive(Clone, Copy)]
 pub struct Listed {
     pub times: Times,
     pub named: u16,
@@ -26,7 +26,7 @@ pub struct Listed {
 }
 
 // A line of a page: the record's number, its times, its alarm mark, whether it was moved to this day, and where its text lies.
-#[derive(Drop)]
+#[derive(Clone, Copy)]
 pub struct Line {
     pub number: usize,
     pub start: Minute,
@@ -36,27 +36,27 @@ pub struct Line {
     pub text: Stretch,
 }
 
-#[derive(Drop)]
+#[derive(Clone, Copy)]
 pub enum FallsAnswer {
     Falls(Falling),
     Refused(Refusal),
 }
 
-#[derive(Drop)]
+#[derive(Clone, Copy)]
 pub enum LineAnswer {
     Line(Line),
     Refused(Refusal),
 }
 
 // The day found, and how many days were looked at, from the asked day through the found one.
-#[derive(Drop)]
+#[derive(Clone, Copy)]
 pub struct Occurrence {
     pub day: CalendarDay,
     pub looked: u32,
 }
 
 // The next occurrence; or none up to the last day, with the number of days looked at.
-#[derive(Drop)]
+#[derive(Clone, Copy)]
 pub enum NextAnswer {
     Found(Occurrence),
     NoneLeft(u32),

@@ -49,14 +49,14 @@ pub const BAD_CANCELLED: u32 = 43;
 
 pub const HAS_CANCELLED: u32 = 44;
 
-#[derive(Drop)]
+#[derive(Clone, Copy)]
 pub struct Refusal {
     pub number: u32,
     pub place: usize,
 }
 
 // What a judgement gives: fine, or the refusal.
-#[derive(Drop)]
+#[derive(Clone, Copy)]
 pub enum Verdict {
     Fine,
     Refused(Refusal),

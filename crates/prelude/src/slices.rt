@@ -6,7 +6,7 @@ ghost use Rattle.prelude.specs.Splice.{splice};
 use crate::numbers::wide;
 
 // A stretch of bytes: where it begins, and how many they are.
-#[derive(Drop)]
+#[derive(Clone, Copy)]
 pub struct Stretch {
     pub place: usize,
     pub length: usize,

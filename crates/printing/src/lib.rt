@@ -1,4 +1,6 @@
 // The printed page of a day: measured, then put into a lent buffer.
+#![tactic(auto)]
+
 pub mod calls;
 mod measures;
 mod puts;

@@ -2,7 +2,7 @@
 pub const MOST_PAGE_BYTES: usize = 65535;
 
 // How large a page is: its lines, and the bytes of all of them.
-#[derive(Drop)]
+#[derive(Clone, Copy)]
 pub struct Size {
     pub lines: usize,
     pub bytes: usize,

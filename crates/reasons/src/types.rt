@@ -2,7 +2,7 @@
 use prelude::refusals::Refusal;
 
 // Document 02, R-8: why a record is on a day, or is not, in the request's order.
-#[derive(Drop)]
+#[derive(Clone, Copy)]
 pub enum Reason {
     OwnDay,
     Moved,
@@ -16,7 +16,7 @@ pub enum Reason {
     WrongWeek,
 }
 
-#[derive(Drop)]
+#[derive(Clone, Copy)]
 pub enum ReasonAnswer {
     Reason(Reason),
     Refused(Refusal),

@@ -2,7 +2,7 @@
 use days::types::{Date, Minute};
 
 // Type 1.
-#[derive(Drop)]
+#[derive(Clone, Copy)]
 pub struct Dated {
     pub alarm: bool,
     pub date: Date,
@@ -12,7 +12,7 @@ pub struct Dated {
 }
 
 // What types 2 to 5 share: shown only from the first date to the last.
-#[derive(Drop)]
+#[derive(Clone, Copy)]
 pub struct Repeat {
     pub alarm: bool,
     pub start: Minute,
@@ -23,21 +23,21 @@ pub struct Repeat {
 }
 
 // Type 2. The weekday is 1 = Sunday to 7 = Saturday.
-#[derive(Drop)]
+#[derive(Clone, Copy)]
 pub struct Weekly {
     pub weekday: u16,
     pub repeat: Repeat,
 }
 
 // Type 3.
-#[derive(Drop)]
+#[derive(Clone, Copy)]
 pub struct MonthlyByDate {
     pub day: u16,
     pub repeat: Repeat,
 }
 
 // Type 4. Week 1 to 5 of the month.
-#[derive(Drop)]
+#[derive(Clone, Copy)]
 pub struct MonthlyByPosition {
     pub week: u16,
     pub weekday: u16,
@@ -45,21 +45,21 @@ pub struct MonthlyByPosition {
 }
 
 // Type 5.
-#[derive(Drop)]
+#[derive(Clone, Copy)]
 pub struct Yearly {
     pub month: u16,
     pub day: u16,
     pub repeat: Repeat,
 }
 
-#[derive(Drop)]
+#[derive(Clone, Copy)]
 pub enum CheckOff {
     NotCheckedOff,
     On(Date),
 }
 
 // Type 6.
-#[derive(Drop)]
+#[derive(Clone, Copy)]
 pub struct ToDo {
     pub carry_forward: bool,
     pub priority: u16,
@@ -67,7 +67,7 @@ pub struct ToDo {
     pub check_off: CheckOff,
 }
 
-#[derive(Drop)]
+#[derive(Clone, Copy)]
 pub enum Record {
     Dated(Dated),
     Weekly(Weekly),

@@ -1,4 +1,6 @@
 // A test program: it writes what the calls that give a stretch of the caller's own file give, which no caller in C can have. A book on standard input, a Calendar day as first word; the short-month choice is that of a caller who names none.
+#![tactic(auto)]
+
 ghost use Rattle.std.specs.Prelude.{◌≤◌, length};
 
 use book::entries::note_at;

@@ -1,0 +1,16 @@
+-- `next_day` meets its contract: each return is the choice that its tests make.
+use Rattle.prelude.specs.Laws.Choice.{picks}
+use Rattle.days.specs.Answers.{next_answer}
+use Rattle.days.proofs.facts.next_day.Goals as goal
+
+pub returns-then-f-gt2099 : goal.returns-then-f-gt2099
+unfolding next_answer
+returns-then-f-gt2099 c = search picks depth 25 fits 3000
+
+pub returns-then-f-lt-LAST_DAY : goal.returns-then-f-lt-LAST_DAY
+unfolding next_answer
+returns-then-f-lt-LAST_DAY c = search picks depth 25 fits 3000
+
+pub returns : goal.returns
+unfolding next_answer
+returns c = search picks depth 25 fits 3000

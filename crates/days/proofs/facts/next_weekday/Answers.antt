@@ -1,0 +1,12 @@
+-- `next_weekday` meets its contract: each return is the choice that its tests make.
+use Rattle.prelude.specs.Laws.Choice.{picks}
+use Rattle.days.specs.Days.{next_weekday}
+use Rattle.days.proofs.facts.next_weekday.Goals as goal
+
+pub returns-then-w-lt7 : goal.returns-then-w-lt7
+unfolding next_weekday
+returns-then-w-lt7 c = search picks depth 25 fits 3000
+
+pub returns : goal.returns
+unfolding next_weekday
+returns c = search picks depth 25 fits 3000

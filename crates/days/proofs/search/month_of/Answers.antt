@@ -1,0 +1,14 @@
+-- `month_of` meets its contract: after k halvings `left` months are left, from month `low` of the 45 on, and eleven leave one month.
+use Rattle.std.proofs.Common.{arith, ◌-◌, ◌≡◌}
+use Rattle.days.specs.Laws.Halving.{rest_lower, rest-upper, found_by_eleven}
+use Rattle.days.proofs.search.month_of.Goals as goal
+
+pub loop-k-preserved-then-starts-low : goal.loop-k-preserved-then-starts-low
+loop-k-preserved-then-starts-low c = (omega arith, omega arith, rest-upper _ c.rest_of-rest.ensures.starts c.loop-k.invariant.2 c.loop-k.invariant.1 (omega arith))
+
+pub loop-k-preserved : goal.loop-k-preserved
+loop-k-preserved c = (omega arith, omega arith, rest_lower _ c.rest_of-rest.ensures.starts c.loop-k.invariant.2 c.loop-k.invariant.1 (omega arith))
+
+pub returns : goal.returns
+returns c = let e : c.loop-k.k ≡ 11 = omega arith in
+    found_by_eleven (rw e at c.loop-k.invariant.2) (c.rest_of-rest.ensures.starts.start _ (omega arith))
