@@ -39,7 +39,7 @@ text_ends_lem {f} {p} [] post c h = zero_here 0 f p (byte-here h).0 ∙ omega ar
 text_ends_lem {f} {p} (x ∷ xs) post c h =
     let b = byte-here h in
     let n = clean_head x xs c in
-    zero-later (suc (length xs)) f p (λ e. n.0 (sym b.0 ∙ e)) ∙ text_ends_lem xs post n.1 b.1 ∙ omega arith
+    zero-later (suc (length xs)) f p (λ e. n.0 (sym b.0 ∙ e)) ∙ text_ends_lem {p = p + 1} xs post n.1 b.1 ∙ omega arith
 
 -- what is read of an appointment that is written at a place
 record Read (f : List ℕ) (at : ℕ) (a : Appointment) (post : List ℕ) : Type 0 where

@@ -86,8 +86,8 @@ module _ (f : List ℕ) (at : ℕ) (i : Item) (rest : List ℕ) (d : drop at f �
     fine : judge_body (type_at f at) (body_at f at) ≡ 0
     fine = rw (starts, whole) (judge-encoded i.kind i.text i.note o.ranged o.short o.clean o.ruled)
 
-    next_place : next_place f at ≡ at + length (item_bytes i)
-    next_place =
+    next_place_is : next_place f at ≡ at + length (item_bytes i)
+    next_place_is =
         let l = long in
         let m = item_length i in
         omega arith
@@ -98,7 +98,7 @@ module _ (f : List ℕ) (at : ℕ) (i : Item) (rest : List ℕ) (d : drop at f �
         let s = starts in
         let l = long in
         let h = inside in
-        record-step f at (record { low = omega arith; high = omega arith; body = omega arith; fine = fine }) ∙ ap StepAnswer.Record next_place
+        record-step f at (record { low = omega arith; high = omega arith; body = omega arith; fine = fine }) ∙ ap StepAnswer.Record next_place_is
 
     further : (n : ℕ) → n ≤ length (item_body i) → drop (at + 3 + n) f ≡ drop n (item_body i) ++ rest
     further n h = sym (drop-drop n (at + 3) f) ∙ ap (drop n) behind ∙ drop-append-le n (item_body i) rest h

@@ -1,0 +1,7 @@
+-- `monthly_by_position_of` meets its contract: its fields are what its callees give.
+use Rattle.records.specs.Fields.{monthly_by_position_of}
+use Rattle.records.proofs.fields.monthly_by_position_of.Goals as goal
+
+pub returns : goal.returns
+unfolding monthly_by_position_of
+returns c = cc
