@@ -1,0 +1,7 @@
+-- `print_in` meets its contract: either working space has room for all records.
+use Rattle.std.proofs.Common.{arith}
+use Rattle.pages.specs.Laws.Pages.{ready_most}
+use Rattle.printing.proofs.calls.print_in.Goals as goal
+
+pub print_with-requires-2 : goal.print_with-requires-2
+print_with-requires-2 c = record { ready_book = c.requires; records_in_bounds = ready_most c.requires; codes_in_bounds = omega arith }
