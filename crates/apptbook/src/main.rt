@@ -1,20 +1,35 @@
 // The program: a book on standard input, a command in its arguments, the answer on standard output.
 #![tactic(auto)]
 
-ghost use Rattle.std.specs.Prelude.{◌≡◌, ◌-◌};
+ghost use Rattle.std.specs.Prelude.{◌≡◌, ◌≤◌, ◌-◌, length};
 
 use commands::parsing::{command_of, word_of};
 use commands::responding::respond;
 use commands::types::{PROGRAM_ROOM, Word};
-use libc::{STDIN_FILENO, STDOUT_FILENO};
+use input::{READ_MOST, read_full};
+use std::env::{Env, FillError};
+use std::io::{Input, Print};
+
+// The bytes that one word may have at most.
+const WORD_MOST: usize = 131072;
 
 // The word at a place of the command line; one that cannot be had whole is no number and no choice.
-fn word_at(i: usize, space: &mut [u8]) -> Word {
-    let n = os::arg(i, space);
-    if os::errno() != 0 {
-        return Word::Other;
+fn word_at<R: Env>(rt: &R, i: usize, space: &mut [u8]) -> Word {
+    match rt.arg(i, space) {
+        Ok(n) => word_of(&space[..n]),
+        Err(_) => Word::Other,
     }
-    word_of(&space[..n])
+}
+
+// The words of the command line, with the program's own name.
+fn word_count<R: Env>(rt: &R) -> usize {
+    let mut space = [0u8; 1];
+    for i in 0..usize::MAX {
+        if let Err(FillError::NotPresent) = rt.arg(i, &mut space) {
+            return i;
+        }
+    }
+    usize::MAX
 }
 
 // The words after the program's own name.
@@ -27,15 +42,17 @@ fn words_of(count: usize) -> usize
     count - 1
 }
 
-fn main() {
-    let mut book = io::large_buffer();
-    let size = io::read_full(STDIN_FILENO, &mut book);
-    let mut space = [0u8; 131072];
-    let a = word_at(1, &mut space);
-    let b = word_at(2, &mut space);
-    let c = word_at(3, &mut space);
-    let command = command_of(words_of(os::arg_count()), a, b, c);
+fn main(rt: HostRuntime) {
+    let mut book = [0u8; READ_MOST];
+    let mut input = rt.reader();
+    let size = read_full(&mut input, &mut book);
+    let mut space = [0u8; WORD_MOST];
+    let a = word_at(&rt, 1, &mut space);
+    let b = word_at(&rt, 2, &mut space);
+    let c = word_at(&rt, 3, &mut space);
+    let command = command_of(words_of(word_count(&rt)), a, b, c);
     let mut out = [0u8; PROGRAM_ROOM];
     let n = respond(&book[..size], command, &mut out);
-    io::write_all(STDOUT_FILENO, &out[..n]);
+    // an answer that cannot be written is lost, as the process has no other way to say it
+    let _written = rt.write_all(&out[..n]).is_ok();
 }

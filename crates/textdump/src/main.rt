@@ -1,7 +1,7 @@
 // A test program: it writes what the calls that give a stretch of the caller's own file give, which no caller in C can have. A book on standard input, a Calendar day as first word; the short-month choice is that of a caller who names none.
 #![tactic(auto)]
 
-ghost use Rattle.std.specs.Prelude.{◌≤◌, length};
+ghost use Rattle.std.specs.Prelude.{◌≡◌, ◌≤◌, ◌-◌, length};
 
 use book::entries::note_at;
 use book::reading::read_book;
@@ -11,9 +11,15 @@ use days::types::CalendarDay;
 use digits::words::{is_number, number_of};
 use export::calls::export;
 use falls::choice::default_choice;
-use libc::{STDIN_FILENO, STDOUT_FILENO};
+use input::{READ_MOST, read_full};
 use pages::lines::{line_text, page_lines};
 use prelude::answers::CountAnswer;
+use std::env::Env;
+use std::io::{Input, Print};
+
+// The bytes that one word may have at most.
+
+const WORD_MOST: usize = 4096;
 
 // The day that a word names; one that is no Calendar day for any other word.
 fn day_of(w: &[u8]) -> u16 {
@@ -26,9 +32,14 @@ fn day_of(w: &[u8]) -> u16 {
     65535
 }
 
-fn put_line(text: &[u8]) {
-    io::write_all(STDOUT_FILENO, text);
-    io::write_all(STDOUT_FILENO, b"\n");
+// What cannot be written is lost.
+fn put<R: Print>(rt: &R, text: &[u8]) {
+    let _written = rt.write_all(text).is_ok();
+}
+
+fn put_line<R: Print>(rt: &R, text: &[u8]) {
+    put(rt, text);
+    put(rt, b"\n");
 }
 
 // How many records a book has; none where it is refused.
@@ -59,44 +70,38 @@ fn listed_count(file: &[u8], day: u16) -> usize {
 }
 
 // Each record's text and note. There is no record behind the last, so that nothing is to be written for it.
-fn put_records(file: &[u8]) {
+fn put_records<R: Print>(rt: &R, file: &[u8]) {
     let n = record_count(file);
     let mut i = 0;
     while i < n {
-        put_line(book::entries::text_at(file, i));
-        put_line(note_at(file, i));
+        put_line(rt, book::entries::text_at(file, i));
+        put_line(rt, note_at(file, i));
         i += 1;
     }
-    io::write_all(STDOUT_FILENO, book::entries::text_at(file, n));
-    io::write_all(STDOUT_FILENO, note_at(file, n));
+    put(rt, book::entries::text_at(file, n));
+    put(rt, note_at(file, n));
 }
 
 // The text of each line of a day's page, and in the same way nothing behind them.
-fn put_page(file: &[u8], day: u16) {
+fn put_page<R: Print>(rt: &R, file: &[u8], day: u16) {
     let n = line_count(file, day);
     let mut i = 0;
     while i < n {
-        put_line(line_text(file, CalendarDay(day), default_choice(), i));
+        put_line(rt, line_text(file, CalendarDay(day), default_choice(), i));
         i += 1;
     }
-    io::write_all(
-        STDOUT_FILENO,
-        line_text(file, CalendarDay(day), default_choice(), n),
-    );
+    put(rt, line_text(file, CalendarDay(day), default_choice(), n));
 }
 
 // The text of each appointment of a day of a Calendar file, in the same way.
-fn put_appointments(file: &[u8], day: u16) {
+fn put_appointments<R: Print>(rt: &R, file: &[u8], day: u16) {
     let n = listed_count(file, day);
     let mut i = 0;
     while i < n {
-        put_line(calendar::shown::text_at(file, CalendarDay(day), i));
+        put_line(rt, calendar::shown::text_at(file, CalendarDay(day), i));
         i += 1;
     }
-    io::write_all(
-        STDOUT_FILENO,
-        calendar::shown::text_at(file, CalendarDay(day), n),
-    );
+    put(rt, calendar::shown::text_at(file, CalendarDay(day), n));
 }
 
 // The export of one day, for which 65,536 bytes are always room; an empty file where it is refused.
@@ -110,15 +115,16 @@ fn export_day(file: &[u8], day: u16, out: &mut [u8]) -> usize
     }
 }
 
-fn main() {
-    let mut book = io::large_buffer();
-    let size = io::read_full(STDIN_FILENO, &mut book);
-    let mut word = io::buffer();
-    let n = os::arg(1, &mut word);
+fn main(rt: HostRuntime) {
+    let mut book = [0u8; READ_MOST];
+    let mut input = rt.reader();
+    let size = read_full(&mut input, &mut book);
+    let mut word = [0u8; WORD_MOST];
+    let n = rt.arg(1, &mut word).unwrap_or(0);
     let day = day_of(&word[..n]);
-    put_records(&book[..size]);
-    put_page(&book[..size], day);
-    let mut calendar = io::large_buffer();
+    put_records(&rt, &book[..size]);
+    put_page(&rt, &book[..size], day);
+    let mut calendar = [0u8; READ_MOST];
     let length = export_day(&book[..size], day, &mut calendar);
-    put_appointments(&calendar[..length], day);
+    put_appointments(&rt, &calendar[..length], day);
 }
