@@ -23,22 +23,22 @@ need_library() {
     job_library
 }
 
-# The programs: crates with a main. Without its stamp, rt links one again even where nothing has changed.
+# The programs: crates with a main. `rt run` builds one, and runs it on nothing.
 need_programs() {
     [ -z "${APPTBOOK_BIN:-}" ] || return 0
-    local main name names=()
+    local main name
     for main in crates/*/src/main.rt; do
         name=${main#crates/} name=${name%%/*}
         stale "target/bin/$name" || continue
-        rm -f "target/stamp/$name"
-        names+=("$name")
+        job_program "$name"
     done
-    [ ${#names[@]} -eq 0 ] || rt check "${names[@]}"
 }
 
-job_prove() { #: prove CRATE [--full | WORDS]   one crate, in seconds, by `rt dev` with WORDS; --full: by `rt check`
+job_prove() { #: prove CRATE [WORDS]            one crate, by `rt check` with WORDS
     [ $# -gt 0 ] || { job_help; exit 2; }
-    if [ "${2:-}" = --full ]; then rt check "$1"; else rt dev "$@"; fi
+    local crate=$1
+    shift
+    (cd -- "crates/$crate" && rt check "$@")
 }
 
 all_tests() {
@@ -65,11 +65,10 @@ formatted() {
     done
 }
 
-job_quick() { #: quick                          layout, proofs of what changed, and all tests; no edits: before a commit
-    rt fmt --check
+job_quick() { #: quick                          proofs of what changed, and all tests; no edits: before a commit
     formatted
     cargo_in tools test
-    rt check
+    rt all check
     all_tests
 }
 
@@ -82,7 +81,16 @@ job_gate() { #: gate                           everything from nothing, edits to
 }
 
 job_library() { #: library                        target/staticlib/libcabi.a, for C and Rust to link
-    rt staticlib cabi
+    (cd crates/cabi && rt lib)
+    mkdir -p target/staticlib
+    cp crates/cabi/out/libcabi.a "$library"
+}
+
+job_program() { #: program NAME                   target/bin/NAME, one of the programs
+    [ $# -gt 0 ] || { job_help; exit 2; }
+    (cd -- "crates/$1" && mkdir -p out && rm -f "out/$1" && rt run </dev/null >out/run.log 2>&1) || true
+    mkdir -p target/bin
+    cp "crates/$1/out/$1" "target/bin/$1"
 }
 
 job_bench() { #: bench [--markdown]             what each call costs; with the word, as docs/measured/bench.md

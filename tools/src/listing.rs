@@ -46,6 +46,7 @@ pub fn parse(text: &str) -> Result<Listing, String> {
             continue;
         }
         let (name, needs) = line.split_once(':').ok_or_else(|| told("NAME: DEP DEP ..".into()))?;
+        let name = name.split_whitespace().next().unwrap_or(""); // `staticlib` may stand behind it
         let needs: Vec<String> = needs.split_whitespace().map(str::to_owned).collect();
         if listing.knows(name) {
             return Err(told(format!("{name} stands there already")));

@@ -13,13 +13,14 @@ pub fn unfolds(text: &str, name: &str) -> bool {
     text.lines().any(of_line)
 }
 
-/// The files below `crates` that do, as they are named there.
+/// The files below `crates` that do, as they are named there; `out` folders hold copies, which are passed over.
 pub fn unfolding(top: &Path, name: &str) -> Result<Vec<String>, String> {
     let crates = top.join("crates");
     let mut files = vec![];
     for file in below(&crates)? {
-        if file.extension().is_some_and(|end| end == "antt") && unfolds(&read(&file)?, name) {
-            let inside = file.strip_prefix(&crates).map_err(|error| error.to_string())?;
+        let inside = file.strip_prefix(&crates).map_err(|error| error.to_string())?;
+        let copy = inside.components().nth(1).is_some_and(|part| part.as_os_str() == "out");
+        if !copy && file.extension().is_some_and(|end| end == "antt") && unfolds(&read(&file)?, name) {
             files.push(inside.display().to_string());
         }
     }

@@ -1,5 +1,5 @@
 //! Which crates a crate's files name: code by paths as `days::dates::date_of`, definitions, laws and proofs by
-//! `Rattle·days`. `rt` wants each of them in the crate's line of `crates.txt`, and nothing else is.
+//! `Rattle.days`. `rt` wants each of them in the crate's line of `crates.txt`, and nothing else is.
 
 use crate::files::{below, read};
 use crate::listing::Listing;
@@ -15,9 +15,9 @@ fn without_comments(text: &str, mark: &str) -> String {
     text.lines().map(|line| line.split(mark).next().unwrap_or("")).collect::<Vec<_>>().join("\n")
 }
 
-/// What stands behind each `Rattle·`.
+/// What stands behind each `Rattle.`.
 fn of_proofs(text: &str) -> impl Iterator<Item = &str> {
-    text.split("Rattle·").skip(1).map(|rest| rest.split(|letter| !in_name(letter)).next().unwrap_or(""))
+    text.split("Rattle.").skip(1).map(|rest| rest.split(|letter| !in_name(letter)).next().unwrap_or(""))
 }
 
 /// The first word of each path `a::b::c`.

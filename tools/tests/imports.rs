@@ -64,9 +64,8 @@ fn listings_that_are_refused() {
 #[test]
 fn names_by_hand() {
     let set = |names: &[&str]| names.iter().map(|&name| name.to_owned()).collect::<BTreeSet<_>>();
-    let code =
-        "use a::b::c; // use d::e;\nghost use Rattle·f·specs.specs.X.{g};\nλ r. ⌜h::i(j) ≡ r⌝; crate::k::l";
+    let code = "use a::b::c; // use d::e;\nghost use Rattle.f.specs.X.{g};\nh::i(j); crate::k::l";
     assert_eq!(names(code, true), set(&["a", "crate", "f", "h"]));
-    let proof = "use Rattle·a.specs.B.{c} -- Rattle·d\nx = Rattle·e·proofs.f a::b";
+    let proof = "use Rattle.a.specs.B.{c} -- Rattle.d\nx = Rattle.e.proofs.f a::b";
     assert_eq!(names(proof, false), set(&["a", "e"]));
 }

@@ -8,11 +8,11 @@ use tools::unfolded::{unfolding, unfolds};
 #[test]
 fn the_default_choice_is_known_in_falls_alone() {
     let falls = |file: &str| read(&top().join("crates/falls/specs").join(file)).expect("a file of falls");
-    assert!(falls("Falls.antt").contains("\nunfoldable pub defaultChoice : ShortMonth\n"), "it is shut");
-    assert!(falls("Laws/Examples.antt").contains("\ndefault-shows : falls defaultChoice "), "not public");
+    assert!(falls("Falls.antt").contains("\nunfoldable pub default_choice : ShortMonth\n"), "it is shut");
+    assert!(falls("Laws/Examples.antt").contains("\ndefault_shows : falls default_choice "), "not public");
     assert_eq!(
-        unfolding(&top(), "defaultChoice").expect("files"),
-        ["falls/proofs/choice/default_choice/Proof.antt", "falls/specs/Laws/Examples.antt"]
+        unfolding(&top(), "default_choice").expect("files"),
+        ["falls/proofs/choice/default_choice/Answers.antt", "falls/specs/Laws/Examples.antt"]
     );
 }
 

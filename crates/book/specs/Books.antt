@@ -3,7 +3,7 @@
 use Rattle.std.specs.Prelude.{ℕ, suc, ◌+◌, List, [], map, length, get_or}
 use Rattle.prelude.specs.Choice.{if_lt, if_b}
 use Rattle.prelude.specs.Bytes.{stretch_bytes}
-use Rattle.prelude.specs.Refusals.{book_too_long, not_aBook, bad_settings, no_such_number, refusal, refusal_at}
+use Rattle.prelude.specs.Refusals.{book_too_long, not_a_book, bad_settings, no_such_number, refusal, refusal_at}
 use Rattle.prelude.specs.declared.refusals.Verdict.{Verdict}
 use Rattle.records.specs.Fields.{record_of, fixed_of, text_length, note_length}
 use Rattle.book.specs.Settings.{book_identified, settings_of, settings_ok}
@@ -37,7 +37,7 @@ book_of f =
     if_lt most_book_bytes (length f) (BookAnswer.Refused (refusal book_too_long))
     (if_b (book_identified f)
     (if_b (settings_ok f) (counted f 0 (walk_of f)) (BookAnswer.Refused (refusal_at bad_settings 5)))
-    (BookAnswer.Refused (refusal not_aBook)))
+    (BookAnswer.Refused (refusal not_a_book)))
 
 -- the record at a place with its stretches: "Text follows, then note"
 unfoldable pub entry_at : List ℕ → ℕ → Entry

@@ -3,7 +3,7 @@
 use Rattle.std.specs.Prelude.{ℕ, zero, suc, ◌+◌, ◌*◌, Bool, true, false, List, length}
 use Rattle.prelude.specs.Choice.{if_lt, if_eq, if_b}
 use Rattle.prelude.specs.Bytes.{byte, word}
-use Rattle.prelude.specs.Refusals.{calendar_too_long, not_aCalendar, bad_table, bad_block, refusal, refusal_at}
+use Rattle.prelude.specs.Refusals.{calendar_too_long, not_a_calendar, bad_table, bad_block, refusal, refusal_at}
 use Rattle.prelude.specs.Verdicts.{and_then}
 use Rattle.prelude.specs.declared.refusals.Verdict.{Verdict}
 use Rattle.days.specs.Days.{last_day}
@@ -100,4 +100,4 @@ calendar_of f =
     (if_b (calendar_identified f)
     (if_lt (length f) (table_end f) (CountAnswer.Refused (refusal_at bad_table 64))
     (calendar_answered (count_of f) (and_then (table_from (count_of f) f 64 0) (days_from (count_of f) f 64))))
-    (CountAnswer.Refused (refusal not_aCalendar)))
+    (CountAnswer.Refused (refusal not_a_calendar)))

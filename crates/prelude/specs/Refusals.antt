@@ -8,8 +8,8 @@ abbrev pub book_too_long : ℕ
 book_too_long = 1
 
 -- 2: first five bytes missing or different
-abbrev pub not_aBook : ℕ
-not_aBook = 2
+abbrev pub not_a_book : ℕ
+not_a_book = 2
 
 -- 3: settings missing or out of range
 abbrev pub bad_settings : ℕ
@@ -64,8 +64,8 @@ abbrev pub calendar_too_long : ℕ
 calendar_too_long = 20
 
 -- 21: under 64 bytes or wrong eight bytes
-abbrev pub not_aCalendar : ℕ
-not_aCalendar = 21
+abbrev pub not_a_calendar : ℕ
+not_a_calendar = 21
 
 -- 22: table past the end, day over 43,829, or days not strictly rising
 abbrev pub bad_table : ℕ
