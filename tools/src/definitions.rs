@@ -1,5 +1,5 @@
 //! `docs/DEFINITIONS.md`: for each crate and each file of definitions its first comment and the names that it defines,
-//! each with the comment above it. Laws stand in `specs/Laws` and are not listed.
+//! each with the comment above it. Laws stand in `proofs/Laws` and are not listed.
 
 use crate::files::read;
 use crate::listing::Listing;

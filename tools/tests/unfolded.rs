@@ -7,12 +7,12 @@ use tools::unfolded::{unfolding, unfolds};
 /// definition's name, and the example is not public.
 #[test]
 fn the_default_choice_is_known_in_falls_alone() {
-    let falls = |file: &str| read(&top().join("crates/falls/specs").join(file)).expect("a file of falls");
-    assert!(falls("Falls.antt").contains("\nunfoldable pub default_choice : ShortMonth\n"), "it is shut");
-    assert!(falls("Laws/Examples.antt").contains("\ndefault_shows : falls default_choice "), "not public");
+    let falls = |file: &str| read(&top().join("crates/falls").join(file)).expect("a file of falls");
+    assert!(falls("specs/Falls.antt").contains("\nunfoldable pub default_choice : ShortMonth\n"), "it is shut");
+    assert!(falls("proofs/Laws/Examples.antt").contains("\ndefault_shows : falls default_choice "), "not public");
     assert_eq!(
         unfolding(&top(), "default_choice").expect("files"),
-        ["falls/proofs/choice/default_choice/Answers.antt", "falls/specs/Laws/Examples.antt"]
+        ["falls/proofs/choice/default_choice/Answers.antt", "falls/proofs/Laws/Examples.antt"]
     );
 }
 

@@ -6,4 +6,3 @@ pub mod Books
 pub mod Invariants
 pub mod Lines
 pub mod SameBook
-pub mod Laws

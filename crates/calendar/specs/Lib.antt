@@ -4,4 +4,3 @@ pub mod Reader
 pub mod File
 pub mod Shown
 pub mod Invariants
-pub mod Laws

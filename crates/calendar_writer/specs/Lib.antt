@@ -3,4 +3,3 @@ pub mod DayLists
 pub mod Sums
 pub mod Scatter
 pub mod Pieces
-pub mod Laws

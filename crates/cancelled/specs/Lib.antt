@@ -1,4 +1,3 @@
 -- Cancelled days: the list that is lent beside a book, its rules, and their laws.
 pub mod Cancelled
 pub mod Judging
-pub mod Laws

@@ -6,4 +6,3 @@ pub mod Ranks
 pub mod Shown
 pub mod Stages
 pub mod Valid
-pub mod Laws

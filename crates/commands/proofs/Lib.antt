@@ -1,2 +1,3 @@
 -- What several proofs cite.
 pub mod NoNumber
+pub mod Laws

@@ -4,4 +4,3 @@ pub mod Responses
 pub mod SameAnswers
 pub mod WithoutWord
 pub mod Words
-pub mod Laws

@@ -1,4 +1,3 @@
 -- From a day's facts on, and dates and days as one number each.
 pub mod Codes
 pub mod Moves
-pub mod Laws

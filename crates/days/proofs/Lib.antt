@@ -1,2 +1,3 @@
 pub mod TableRule
 pub mod MarchRule
+pub mod Laws

@@ -7,11 +7,11 @@ use native.Mathlib.Omega.{arith}
 use native.Mathlib.Nat.{add-zero, zero-add, add-suc, suc-add, le_of_suc-le-suc, not-suc-le-zero}
 use lib.Dec.{T, eqb, eqb→eq}
 use Rattle.prelude.specs.Choice.{if_lt, if_eq, if_b}
-use Rattle.prelude.specs.Laws.Choice.{is_lt, is_ge}
+use Rattle.prelude.proofs.Laws.Choice.{is_lt, is_ge}
 use Rattle.days.specs.Dates.{leap, month_length}
 use Rattle.days.specs.Days.{year_at, month_at, month_length_at, month_start, month_of}
 use Rattle.days.specs.Dates.{RealDate}
-use Rattle.days.specs.Laws.Days.{start_zero, start_suc}
+use Rattle.days.proofs.Laws.Days.{start_zero, start_suc}
 use Rattle.days.proofs.TableRule.{both, both_left, both_right}
 use Rattle.days.specs.declared.types.Date.{Date}
 

@@ -8,7 +8,7 @@ use native.Mathlib.Nat.{add-zero, zero-add, add-suc, suc-add, le_of_suc-le-suc, 
 use lib.Dec.{T, eqb, eqb→eq}
 use lib.ListN.{length, get_or}
 use Rattle.days.specs.Days.{month_length_at, month_start}
-use Rattle.days.specs.Laws.Days.{start_zero, start_suc}
+use Rattle.days.proofs.Laws.Days.{start_zero, start_suc}
 
 abbrev pub both : Bool → Bool → Bool
 both true b = b

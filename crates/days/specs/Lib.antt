@@ -5,4 +5,3 @@ pub mod Facts
 pub mod Answers
 pub mod Table
 pub mod Halving
-pub mod Laws

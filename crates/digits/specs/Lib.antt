@@ -1,3 +1,2 @@
 -- Numbers as text.
 pub mod Digits
-pub mod Laws

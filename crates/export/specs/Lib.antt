@@ -4,4 +4,3 @@ pub mod Demand
 pub mod Passes
 pub mod Invariants
 pub mod Requests
-pub mod Laws

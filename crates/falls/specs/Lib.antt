@@ -3,4 +3,3 @@ pub mod Falls
 pub mod Moved
 pub mod Agrees
 pub mod Times
-pub mod Laws

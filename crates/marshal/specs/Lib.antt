@@ -10,4 +10,3 @@ pub mod ReasonAnswers
 pub mod RecordAnswers
 pub mod RecordArguments
 pub mod WriterStates
-pub mod Laws

@@ -5,4 +5,3 @@ pub mod Answers
 pub mod Codes
 pub mod Invariants
 pub mod SetP
-pub mod Laws

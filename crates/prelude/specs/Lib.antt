@@ -4,4 +4,3 @@ pub mod Bytes
 pub mod Refusals
 pub mod Splice
 pub mod Verdicts
-pub mod Laws

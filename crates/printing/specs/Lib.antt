@@ -2,4 +2,3 @@
 pub mod Printed
 pub mod Answers
 pub mod Coded
-pub mod Laws

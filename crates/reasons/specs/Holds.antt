@@ -18,7 +18,7 @@ use Rattle.falls.specs.declared.types.Falling.{Falling}
 use Rattle.falls.specs.declared.types.ShortMonth.{ShortMonth}
 use Rattle.pages.specs.Pages.{page_on}
 use Rattle.pages.specs.Invariants.{record_at}
-use Rattle.pages.specs.Laws.PageFacts.{of_number}
+use Rattle.pages.proofs.Laws.PageFacts.{of_number}
 use Rattle.reasons.specs.Reasons.{first_date, last_date, own_month, own_day, own_weekday, own_week, is_to_do, says_shown}
 use Rattle.reasons.specs.declared.types.Reason.{Reason}
 use Rattle.reasons.specs.declared.types.ReasonAnswer.{ReasonAnswer}

@@ -3,4 +3,3 @@ pub mod Reasons
 pub mod Kinds
 pub mod Holds
 pub mod Answers
-pub mod Laws

@@ -4,4 +4,3 @@ pub mod Ranges
 pub mod Bodies
 pub mod Encoding
 pub mod Invariants
-pub mod Laws

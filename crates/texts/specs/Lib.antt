@@ -2,4 +2,3 @@
 pub mod Lines
 pub mod Notes
 pub mod Invariants
-pub mod Laws

@@ -3,4 +3,3 @@ pub mod Writing
 pub mod Runs
 pub mod Again
 pub mod Heads
-pub mod Laws

@@ -1,6 +1,6 @@
 -- `export_day` meets its contract: a file that was written has its length inside the buffer.
 use Rattle.std.proofs.Common.{sym, ◌∙◌}
-use Rattle.export.specs.Laws.Answers.{export-success}
+use Rattle.export.proofs.Laws.Answers.{export-success}
 use Rattle.textdump.proofs.export_day.Goals as goal
 
 pub returns-in-Count : goal.returns-in-Count

@@ -1,6 +1,6 @@
 -- `place_from` meets its contract: a cursor walks the records, and stands at record i after i - n steps.
 use Rattle.std.proofs.Common.{◌-◌, ◌≤◌}
-use Rattle.book.specs.Laws.Books.{Cursor}
+use Rattle.book.proofs.Laws.Books.{Cursor}
 use Rattle.book.proofs.entries.place_from.Given as goal
 
 abbrev pub invariant-loop-i : goal.invariant-loop-i

@@ -1,6 +1,6 @@
 -- `place_of` meets its contract: the first record's place is the first, by `cursor-ahead`.
 use Rattle.std.proofs.Common.{arith, sym}
-use Rattle.book.specs.Laws.Books.{cursor_first, cursor-ahead}
+use Rattle.book.proofs.Laws.Books.{cursor_first, cursor-ahead}
 use Rattle.book.proofs.entries.place_of.Goals as goal
 
 pub place_from-requires : goal.place_from-requires

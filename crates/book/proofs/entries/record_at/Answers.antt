@@ -1,7 +1,7 @@
 -- `record_at` meets its contract: the book's own answer decides.
 use Rattle.std.proofs.Common.{ap, sym, ◌∙◌}
 use Rattle.book.specs.Books.{record_from, record_answer}
-use Rattle.book.specs.Laws.Books.{book_accepted}
+use Rattle.book.proofs.Laws.Books.{book_accepted}
 use Rattle.book.proofs.entries.record_at.Goals as goal
 
 pub record_in-requires : goal.record_in-requires

@@ -1,8 +1,8 @@
 -- `record_in` meets its contract: below the count the record at its place, else no such number.
 use Rattle.std.proofs.Common.{ap, arith, refl, ◌∙◌}
-use Rattle.prelude.specs.Laws.Choice.{lt_yes, lt_no}
+use Rattle.prelude.proofs.Laws.Choice.{lt_yes, lt_no}
 use Rattle.book.specs.Books.{entry_at, record_from}
-use Rattle.book.specs.Laws.Entries.{record_there}
+use Rattle.book.proofs.Laws.Entries.{record_there}
 use Rattle.book.specs.declared.types.RecordAnswer.{RecordAnswer}
 use Rattle.book.proofs.entries.record_in.Goals as goal
 

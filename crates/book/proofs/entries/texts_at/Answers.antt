@@ -2,10 +2,10 @@
 use Rattle.std.proofs.Common.{arith, ◌+◌, ◌≤◌}
 use native.Mathlib.Nat.{add-sub_cancel_left}
 use Rattle.records.specs.Fields.{fixed_of}
-use Rattle.records.specs.Laws.Judged.{fixed_range}
+use Rattle.records.proofs.Laws.Judged.{fixed_range}
 use Rattle.book.specs.Walk.{type_at, body_length_at}
 use Rattle.book.specs.Books.{entry_at}
-use Rattle.book.specs.Laws.Entries.{fixed_most}
+use Rattle.book.proofs.Laws.Entries.{fixed_most}
 use Rattle.book.proofs.entries.texts_at.Goals as goal
 
 pub overflow_add-text : goal.overflow_add-text

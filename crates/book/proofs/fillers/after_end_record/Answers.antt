@@ -1,8 +1,8 @@
 -- `after_end_record` meets its contract: nothing there, more than 127 bytes, or what is said of each.
 use Rattle.std.proofs.Common.{arith, refl, sym}
-use Rattle.prelude.specs.Laws.Choice.{lt_yes, lt_no}
+use Rattle.prelude.proofs.Laws.Choice.{lt_yes, lt_no}
 use Rattle.book.specs.Fillers.{after_end_record}
-use Rattle.book.specs.Laws.Fillers.{nothing_after}
+use Rattle.book.proofs.Laws.Fillers.{nothing_after}
 use Rattle.book.proofs.fillers.after_end_record.Goals as goal
 
 pub returns-then-file-e : goal.returns-then-file-e

@@ -4,7 +4,7 @@ use Rattle.prelude.specs.Bytes.{byte}
 use Rattle.prelude.specs.Refusals.{after_end, refusal_at}
 use Rattle.prelude.specs.declared.refusals.Verdict.{Verdict}
 use Rattle.book.specs.Fillers.{filler, fillers_from}
-use Rattle.book.specs.Laws.Fillers.{filler-on, filler-other, filler_end}
+use Rattle.book.proofs.Laws.Fillers.{filler-on, filler-other, filler_end}
 use Rattle.book.proofs.fillers.fillers_from.Goals as goal
 
 pub returns-then-file-p-ne-FILLER : goal.returns-then-file-p-ne-FILLER

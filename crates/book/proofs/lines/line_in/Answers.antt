@@ -1,10 +1,10 @@
 -- `line_in` meets its contract: the note's lines in the file, and a line lies inside the note.
 use Rattle.std.proofs.Common.{List, ap, arith, drop, length, length-take, refl, ℕ, ◌+◌, ◌∙◌, ◌≡◌}
-use Rattle.prelude.specs.Laws.Choice.{lt_yes, lt_no}
+use Rattle.prelude.proofs.Laws.Choice.{lt_yes, lt_no}
 use Rattle.prelude.specs.Bytes.{stretch_bytes}
 use Rattle.texts.specs.Notes.{lines_of}
 use Rattle.texts.specs.Lines.{line_at}
-use Rattle.texts.specs.Laws.Lines.{line_inside}
+use Rattle.texts.proofs.Laws.Lines.{line_inside}
 use Rattle.prelude.specs.declared.slices.Stretch.{Stretch}
 use Rattle.book.specs.Lines.{note_line_of}
 use Rattle.book.specs.declared.types.StretchAnswer.{StretchAnswer}

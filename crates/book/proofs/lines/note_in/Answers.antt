@@ -1,8 +1,8 @@
 -- `note_in` meets its contract: below the count the note of the record at its place, else no such number.
 use Rattle.std.proofs.Common.{ap, arith, ℕ, ◌∙◌}
 use Rattle.book.specs.Books.{entry_at}
-use Rattle.book.specs.Laws.Entries.{record_there}
-use Rattle.book.specs.Laws.Notes.{note_there, note_past}
+use Rattle.book.proofs.Laws.Entries.{record_there}
+use Rattle.book.proofs.Laws.Notes.{note_there, note_past}
 use Rattle.book.proofs.lines.note_in.Goals as goal
 
 pub texts_at-texts-requires : goal.texts_at-texts-requires

@@ -1,7 +1,7 @@
 -- `note_line` meets its contract: the note's answer decides, and the note lies in the file.
 use Rattle.std.proofs.Common.{ap, sym, ◌∙◌}
 use Rattle.book.specs.Lines.{note_line_in, line_answer}
-use Rattle.book.specs.Laws.Notes.{note_inside}
+use Rattle.book.proofs.Laws.Notes.{note_inside}
 use Rattle.book.proofs.lines.note_line.Goals as goal
 
 pub line_in-requires : goal.line_in-requires

@@ -1,7 +1,7 @@
 -- `note_of` meets its contract: the book's own answer decides.
 use Rattle.std.proofs.Common.{ap, sym, ◌∙◌}
 use Rattle.book.specs.Books.{record_from, record_answer}
-use Rattle.book.specs.Laws.Books.{book_accepted}
+use Rattle.book.proofs.Laws.Books.{book_accepted}
 use Rattle.book.specs.Lines.{note_from}
 use Rattle.book.proofs.lines.note_of.Goals as goal
 

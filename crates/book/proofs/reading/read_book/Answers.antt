@@ -1,8 +1,8 @@
 -- `read_book` meets its contract: each return is the choice that its tests make.
 use Rattle.std.proofs.Common.{sym, ◌∙◌}
-use Rattle.prelude.specs.Laws.Choice.{picks}
+use Rattle.prelude.proofs.Laws.Choice.{picks}
 use Rattle.book.specs.Books.{book_of}
-use Rattle.book.specs.Laws.Books.{settings_long}
+use Rattle.book.proofs.Laws.Books.{settings_long}
 use Rattle.book.proofs.reading.read_book.Goals as goal
 
 pub returns-then-file-gt-MOST_BOOK_BYTES : goal.returns-then-file-gt-MOST_BOOK_BYTES

@@ -4,7 +4,7 @@ use Rattle.book.specs.Walk.{step_at, walk_of, next_place}
 use Rattle.book.specs.Fillers.{after_end_record}
 use Rattle.book.specs.Books.{accepted, counted}
 use Rattle.book.specs.Settings.{settings_of}
-use Rattle.book.specs.Laws.Walk.{at_first, at_next, step-record, step_end, walk-record, walk_end, walk-stop}
+use Rattle.book.proofs.Laws.Walk.{at_first, at_next, step-record, step_end, walk-record, walk_end, walk-stop}
 use Rattle.book.specs.Invariants.{RecordAt}
 use Rattle.book.specs.declared.types.StepAnswer.{StepAnswer}
 use Rattle.book.proofs.reading.read_records.Goals as goal

@@ -2,7 +2,7 @@
 use Rattle.std.proofs.Common.{length, ◌-◌, ◌≡◌}
 use Rattle.book.specs.Walk.{walk_from, walk_of}
 use Rattle.book.specs.Books.{counted}
-use Rattle.book.specs.Laws.Walk.{At}
+use Rattle.book.proofs.Laws.Walk.{At}
 use Rattle.book.proofs.reading.read_records.Given as goal
 
 abbrev pub invariant-loop-next : goal.invariant-loop-next

@@ -1,5 +1,5 @@
 -- `flags_ok` meets its contract: each return is the choice that its tests make.
-use Rattle.prelude.specs.Laws.Choice.{picks}
+use Rattle.prelude.proofs.Laws.Choice.{picks}
 use Rattle.book.specs.Settings.{flags_ok}
 use Rattle.book.proofs.settings.flags_ok.Goals as goal
 

@@ -1,5 +1,5 @@
 -- `same_bytes` meets its contract: each return is the choice that its tests make.
-use Rattle.prelude.specs.Laws.Choice.{picks}
+use Rattle.prelude.proofs.Laws.Choice.{picks}
 use Rattle.book.specs.Settings.{book_mark}
 use Rattle.book.proofs.settings.same_bytes.Goals as goal
 

@@ -1,5 +1,5 @@
 -- `settings_in_range` meets its contract: each return is the choice that its tests make.
-use Rattle.prelude.specs.Laws.Choice.{picks}
+use Rattle.prelude.proofs.Laws.Choice.{picks}
 use Rattle.book.specs.Settings.{settings_in_range}
 use Rattle.book.proofs.settings.settings_in_range.Goals as goal
 

@@ -1,6 +1,6 @@
 -- `settings_ok` meets its contract: each return is the choice that its tests make.
 use Rattle.std.proofs.Common.{arith, refl}
-use Rattle.prelude.specs.Laws.Choice.{picks, lt_no, if_by_true, if_by_false}
+use Rattle.prelude.proofs.Laws.Choice.{picks, lt_no, if_by_true, if_by_false}
 use Rattle.book.specs.Settings.{settings_ok}
 use Rattle.book.proofs.settings.settings_ok.Goals as goal
 

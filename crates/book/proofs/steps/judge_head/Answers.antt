@@ -1,6 +1,6 @@
 -- `judge_head` meets its contract: each return is the choice that its tests make.
 use Rattle.std.proofs.Common.{arith, refl}
-use Rattle.prelude.specs.Laws.Choice.{lt_yes, lt_no, eq_yes, eq_no}
+use Rattle.prelude.proofs.Laws.Choice.{lt_yes, lt_no, eq_yes, eq_no}
 use Rattle.book.specs.Walk.{judge_head}
 use Rattle.book.proofs.steps.judge_head.Goals as goal
 

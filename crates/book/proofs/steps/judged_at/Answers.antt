@@ -1,5 +1,5 @@
 -- `judged_at` meets its contract: each return is the choice that its tests make.
-use Rattle.prelude.specs.Laws.Choice.{picks}
+use Rattle.prelude.proofs.Laws.Choice.{picks}
 use Rattle.book.specs.Walk.{body_step}
 use Rattle.book.proofs.steps.judged_at.Goals as goal
 

@@ -1,10 +1,10 @@
 -- `step_at` meets its contract: the head's and the body's judgement choose; a head without refusal says that the body lies in the file.
 use Rattle.std.proofs.Common.{ap, arith, length, refl, sym, ℕ, ◌+◌, ◌∙◌, ◌≡◌, ◌≤◌}
 use native.Mathlib.Nat.{add-sub_cancel_left}
-use Rattle.prelude.specs.Laws.Choice.{eq_yes, eq_no}
+use Rattle.prelude.proofs.Laws.Choice.{eq_yes, eq_no}
 use Rattle.prelude.specs.Refusals.{refusal_at}
 use Rattle.book.specs.Walk.{type_at, body_length_at, judge_head, step_at}
-use Rattle.book.specs.Laws.Walk.{HeadFine, head_fine, head_short}
+use Rattle.book.proofs.Laws.Walk.{HeadFine, head_fine, head_short}
 use Rattle.book.specs.declared.types.StepAnswer.{StepAnswer}
 use Rattle.book.proofs.steps.step_at.Goals as goal
 

@@ -1,7 +1,7 @@
 -- `apptbook_check_chains` meets its contract: what the layer below gives, as it crosses.
 use Rattle.std.proofs.Common.{ap, ◌∙◌}
 use Rattle.marshal.specs.CountAnswers.{count_out}
-use Rattle.marshal.specs.Laws.ChainAnswers.{promised_out}
+use Rattle.marshal.proofs.Laws.ChainAnswers.{promised_out}
 use Rattle.cabi.proofs.chains_calls.apptbook_check_chains.Goals as goal
 
 pub returns : goal.returns

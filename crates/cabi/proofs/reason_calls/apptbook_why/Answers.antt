@@ -3,7 +3,7 @@ use Rattle.std.proofs.Common.{ap, ◌∙◌}
 use Rattle.falls.specs.declared.types.ShortMonth.{ShortMonth}
 use Rattle.marshal.specs.PageAnswers.{day_of}
 use Rattle.marshal.specs.ReasonAnswers.{reason_out}
-use Rattle.marshal.specs.Laws.ReasonAnswers.{explained_out}
+use Rattle.marshal.proofs.Laws.ReasonAnswers.{explained_out}
 use Rattle.reasons.specs.Answers.{record_why}
 use Rattle.cabi.proofs.reason_calls.apptbook_why.Goals as goal
 

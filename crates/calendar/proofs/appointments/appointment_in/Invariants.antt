@@ -1,7 +1,7 @@
 -- `appointment_in` meets its contract: a cursor walks the list up to appointment k, or to its end.
 use Rattle.std.proofs.Common.{◌-◌, ◌≤◌}
 use Rattle.calendar.specs.Lists.{list_walk_from, places_in_list}
-use Rattle.calendar.specs.Laws.Appointments.{ListCursor}
+use Rattle.calendar.proofs.Laws.Appointments.{ListCursor}
 use Rattle.calendar.proofs.appointments.appointment_in.Given as goal
 
 abbrev pub invariant-loop-at : goal.invariant-loop-at

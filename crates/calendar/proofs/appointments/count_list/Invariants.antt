@@ -1,7 +1,7 @@
 -- `count_list` meets its contract: a cursor walks the list, and stands at appointment n after n steps.
 use Rattle.std.proofs.Common.{◌-◌, ◌≤◌}
 use Rattle.calendar.specs.Lists.{list_walk_from, places_in_list}
-use Rattle.calendar.specs.Laws.Appointments.{ListCursor}
+use Rattle.calendar.proofs.Laws.Appointments.{ListCursor}
 use Rattle.calendar.proofs.appointments.count_list.Given as goal
 
 abbrev pub invariant-loop-at : goal.invariant-loop-at

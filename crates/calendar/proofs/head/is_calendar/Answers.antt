@@ -1,6 +1,6 @@
 -- `is_calendar` meets its contract: 64 bytes are there, and the first eight are judged.
 use Rattle.std.proofs.Common.{arith, refl}
-use Rattle.prelude.specs.Laws.Choice.{lt_yes, lt_no}
+use Rattle.prelude.proofs.Laws.Choice.{lt_yes, lt_no}
 use Rattle.calendar.specs.Reader.{calendar_identified}
 use Rattle.calendar.proofs.head.is_calendar.Goals as goal
 

@@ -2,7 +2,7 @@
 use Rattle.std.proofs.Common.{ap, arith, suc, sym, ℕ, ◌+◌, ◌-◌, ◌∙◌, ◌≡◌}
 use Rattle.prelude.specs.Bytes.{word}
 use Rattle.calendar.specs.Reader.{table_from}
-use Rattle.calendar.specs.Laws.Reader.{table_none, table-over, table-falls, table-rises}
+use Rattle.calendar.proofs.Laws.Reader.{table_none, table-over, table-falls, table-rises}
 use Rattle.calendar.proofs.head.judge_table.Goals as goal
 
 pub returns-then-day-gt-LAST_DAY : goal.returns-then-day-gt-LAST_DAY

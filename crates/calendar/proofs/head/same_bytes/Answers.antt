@@ -1,6 +1,6 @@
 -- `same_bytes` meets its contract: each return is the choice that its tests make.
 use Rattle.calendar.specs.Reader.{calendar_mark}
-use Rattle.prelude.specs.Laws.Choice.{picks}
+use Rattle.prelude.proofs.Laws.Choice.{picks}
 use Rattle.calendar.proofs.head.same_bytes.Goals as goal
 
 pub returns-then-a-ne181 : goal.returns-then-a-ne181

@@ -1,6 +1,6 @@
 -- `appointment_ok` meets its contract: each return is the choice that its tests make.
 use Rattle.std.proofs.Common.{arith, refl}
-use Rattle.prelude.specs.Laws.Choice.{lt_yes, lt_no}
+use Rattle.prelude.proofs.Laws.Choice.{lt_yes, lt_no}
 use Rattle.calendar.specs.Lists.{appointment_ok}
 use Rattle.calendar.proofs.lists.appointment_ok.Goals as goal
 

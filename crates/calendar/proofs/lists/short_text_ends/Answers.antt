@@ -1,9 +1,9 @@
 -- `short_text_ends` meets its contract. The loop keeps: the first zero after the minute is the first from byte k on.
 use Rattle.std.proofs.Common.{ap, arith, refl, suc, ℕ, ◌+◌, ◌-◌, ◌∙◌, ◌≡◌}
-use Rattle.prelude.specs.Laws.Choice.{eq_yes, eq_no}
+use Rattle.prelude.proofs.Laws.Choice.{eq_yes, eq_no}
 use Rattle.prelude.specs.Bytes.{byte}
 use Rattle.calendar.specs.Lists.{first_zero}
-use Rattle.calendar.specs.Laws.Lists.{zero-none, zero_met, zero-later}
+use Rattle.calendar.proofs.Laws.Lists.{zero-none, zero_met, zero-later}
 use Rattle.calendar.proofs.lists.short_text_ends.Goals as goal
 
 pub returns-then-file-at-eq0 : goal.returns-then-file-at-eq0

@@ -1,9 +1,9 @@
 -- `text_ends` meets its contract: a long text is scanned up to the zero that was seen at its end.
 use Rattle.std.proofs.Common.{ap, arith, refl, suc, sym, ℕ, ◌+◌, ◌-◌, ◌∙◌, ◌≡◌}
-use Rattle.prelude.specs.Laws.Choice.{eq_yes, eq_no}
+use Rattle.prelude.proofs.Laws.Choice.{eq_yes, eq_no}
 use Rattle.prelude.specs.Bytes.{byte}
 use Rattle.calendar.specs.Lists.{first_zero}
-use Rattle.calendar.specs.Laws.Lists.{ZeroIn, zero_in, zero_more}
+use Rattle.calendar.proofs.Laws.Lists.{ZeroIn, zero_in, zero_more}
 use Rattle.calendar.proofs.lists.text_ends.Goals as goal
 
 pub returns-then-file-last-ne0 : goal.returns-then-file-last-ne0

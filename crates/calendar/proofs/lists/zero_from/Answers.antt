@@ -1,6 +1,6 @@
 -- `zero_from` meets its contract. The loop keeps: the first zero from the start on is the first from i on.
 use Rattle.std.proofs.Common.{arith, suc, sym, ◌+◌, ◌-◌, ◌<◌, ◌∙◌, ◌≡◌}
-use Rattle.calendar.specs.Laws.Lists.{zero-later, before_last, zero_met}
+use Rattle.calendar.proofs.Laws.Lists.{zero-later, before_last, zero_met}
 use Rattle.calendar.proofs.lists.zero_from.Goals as goal
 
 pub loop-i-preserved : goal.loop-i-preserved

@@ -1,6 +1,6 @@
 -- `judge_all` meets its contract: each arm is a clause of its definition.
 use Rattle.std.proofs.Common.{sym, ◌∙◌}
-use Rattle.prelude.specs.Laws.Verdicts.{and_then_fine, and_then-refused}
+use Rattle.prelude.proofs.Laws.Verdicts.{and_then_fine, and_then-refused}
 use Rattle.calendar.proofs.reading.judge_all.Goals as goal
 
 pub returns-in-Fine : goal.returns-in-Fine

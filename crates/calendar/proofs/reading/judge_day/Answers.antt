@@ -2,7 +2,7 @@
 use Rattle.std.proofs.Common.{arith, sym, true, ◌∙◌, ◌≡◌}
 use Rattle.calendar.specs.Reader.{block_ok}
 use Rattle.calendar.specs.Invariants.{BlockAt}
-use Rattle.calendar.specs.Laws.Reader.{block-facts, day-block, day-list}
+use Rattle.calendar.proofs.Laws.Reader.{block-facts, day-block, day-list}
 use Rattle.calendar.proofs.reading.judge_day.Goals as goal
 
 pub span_of-span-requires : goal.span_of-span-requires

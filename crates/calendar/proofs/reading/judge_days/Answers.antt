@@ -1,7 +1,7 @@
 -- `judge_days` meets its contract. The loop keeps: the days are judged as those that are left from p on.
 use Rattle.std.proofs.Common.{ap, arith, suc, sym, ℕ, ◌*◌, ◌+◌, ◌-◌, ◌/◌, ◌∙◌, ◌≡◌}
 use Rattle.calendar.specs.Reader.{days_from}
-use Rattle.calendar.specs.Laws.Reader.{days-none, days-next, days-stop}
+use Rattle.calendar.proofs.Laws.Reader.{days-none, days-next, days-stop}
 use Rattle.calendar.proofs.reading.judge_days.Goals as goal
 
 pub loop-p-preserved : goal.loop-p-preserved

@@ -1,9 +1,9 @@
 -- `read_calendar` meets its contract: each return is the choice that its tests make.
 use Rattle.std.proofs.Common.{ap, arith, refl, sym, ℕ, ◌∙◌}
-use Rattle.prelude.specs.Laws.Choice.{lt_yes, lt_no, if_by_true, if_by_false}
+use Rattle.prelude.proofs.Laws.Choice.{lt_yes, lt_no, if_by_true, if_by_false}
 use Rattle.prelude.specs.Verdicts.{and_then}
 use Rattle.calendar.specs.Reader.{table_from, days_from, calendar_answered, calendar_of}
-use Rattle.calendar.specs.Laws.Reader.{head_long}
+use Rattle.calendar.proofs.Laws.Reader.{head_long}
 use Rattle.calendar.proofs.reading.read_calendar.Goals as goal
 
 pub returns-then-file-gt2228224 : goal.returns-then-file-gt2228224

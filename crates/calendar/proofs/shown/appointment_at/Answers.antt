@@ -1,7 +1,7 @@
 -- `appointment_at` meets its contract: the file's own answer decides.
 use Rattle.std.proofs.Common.{ap, sym, ◌∙◌}
 use Rattle.calendar.specs.Shown.{appointment_from, appointment_answer}
-use Rattle.calendar.specs.Laws.Reader.{calendar_facts}
+use Rattle.calendar.proofs.Laws.Reader.{calendar_facts}
 use Rattle.calendar.proofs.shown.appointment_at.Goals as goal
 
 pub appointment_on-requires : goal.appointment_on-requires

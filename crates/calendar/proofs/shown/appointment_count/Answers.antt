@@ -1,7 +1,7 @@
 -- `appointment_count` meets its contract: the file's own answer decides.
 use Rattle.std.proofs.Common.{ap, sym, ◌∙◌}
 use Rattle.calendar.specs.Shown.{count_from, count_answer}
-use Rattle.calendar.specs.Laws.Reader.{calendar_facts}
+use Rattle.calendar.proofs.Laws.Reader.{calendar_facts}
 use Rattle.calendar.proofs.shown.appointment_count.Goals as goal
 
 pub count_on-requires : goal.count_on-requires

@@ -1,6 +1,6 @@
 -- `appointment_on` meets its contract: 11, or the day's list is walked.
 use Rattle.std.proofs.Common.{ap, arith, refl, sym, ◌∙◌}
-use Rattle.prelude.specs.Laws.Choice.{lt_yes, lt_no}
+use Rattle.prelude.proofs.Laws.Choice.{lt_yes, lt_no}
 use Rattle.calendar.specs.Shown.{appointment_among, appointment_from}
 use Rattle.calendar.proofs.shown.appointment_on.Goals as goal
 

@@ -1,6 +1,6 @@
 -- `count_on` meets its contract: 11, or the day's list is counted.
 use Rattle.std.proofs.Common.{List, ap, arith, length, refl, sym, ℕ, ◌∙◌}
-use Rattle.prelude.specs.Laws.Choice.{lt_yes, lt_no}
+use Rattle.prelude.proofs.Laws.Choice.{lt_yes, lt_no}
 use Rattle.calendar.specs.Shown.{count_from}
 use Rattle.prelude.specs.declared.answers.CountAnswer.{CountAnswer}
 use Rattle.calendar.proofs.shown.count_on.Goals as goal

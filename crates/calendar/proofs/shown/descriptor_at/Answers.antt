@@ -1,7 +1,7 @@
 -- `descriptor_at` meets its contract: the file's own answer decides.
 use Rattle.std.proofs.Common.{ap, sym, ◌∙◌}
 use Rattle.calendar.specs.Shown.{descriptor_from, descriptor_answer}
-use Rattle.calendar.specs.Laws.Reader.{calendar_facts}
+use Rattle.calendar.proofs.Laws.Reader.{calendar_facts}
 use Rattle.calendar.proofs.shown.descriptor_at.Goals as goal
 
 pub descriptor_in-requires : goal.descriptor_in-requires

@@ -1,6 +1,6 @@
 -- `descriptor_in` meets its contract: below the count the descriptor at its place, else no such number.
 use Rattle.std.proofs.Common.{arith, refl}
-use Rattle.prelude.specs.Laws.Choice.{lt_yes, lt_no}
+use Rattle.prelude.proofs.Laws.Choice.{lt_yes, lt_no}
 use Rattle.calendar.specs.Shown.{descriptor_at, descriptor_from}
 use Rattle.calendar.proofs.shown.descriptor_in.Goals as goal
 

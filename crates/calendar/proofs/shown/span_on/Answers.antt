@@ -2,9 +2,9 @@
 use Rattle.std.proofs.Common.{ap, arith, suc, sym, ℕ, ◌-◌, ◌∙◌, ◌≡◌}
 use Rattle.prelude.specs.declared.refusals.Verdict.{Verdict}
 use Rattle.calendar.specs.Reader.{day_verdict, days_from}
-use Rattle.calendar.specs.Laws.Reader.{day-fine, days_fine}
+use Rattle.calendar.proofs.Laws.Reader.{day-fine, days_fine}
 use Rattle.calendar.specs.Shown.{places_from, places_on}
-use Rattle.calendar.specs.Laws.Appointments.{places-none, places-here, places-from-other-day, list_here, list_none}
+use Rattle.calendar.proofs.Laws.Appointments.{places-none, places-here, places-from-other-day, list_here, list_none}
 use Rattle.calendar.proofs.shown.span_on.Goals as goal
 
 pub loop-left-init : goal.loop-left-init

@@ -1,5 +1,5 @@
 -- `is_past_last` meets its contract: each return by the test before it.
-use Rattle.prelude.specs.Laws.Choice.{picks}
+use Rattle.prelude.proofs.Laws.Choice.{picks}
 use Rattle.calendar_writer.proofs.measuring.is_past_last.Goals as goal
 
 pub returns-then-unit-gt-LAST_BLOCK : goal.returns-then-unit-gt-LAST_BLOCK

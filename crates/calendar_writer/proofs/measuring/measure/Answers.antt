@@ -2,7 +2,7 @@
 use Rattle.std.proofs.Common.{arith, sym, ℕ, ◌*◌, ◌+◌, ◌-◌, ◌<◌, ◌∙◌, ◌≤◌}
 use Rattle.calendar_writer.specs.Sums.{count_in}
 use Rattle.calendar_writer.specs.DayLists.{most_days}
-use Rattle.calendar_writer.specs.Laws.Turns.{sum-end, sum_none, sum_some}
+use Rattle.calendar_writer.proofs.Laws.Turns.{sum-end, sum_none, sum_some}
 use Rattle.calendar_writer.proofs.measuring.measure.Goals as goal
 
 count_fits : (a k s : ℕ) → a ≤ 4294967296 * k → k < most_days → s < 18446744073709551616 → a + count_in s < 18446744073709551616

@@ -1,11 +1,11 @@
 -- `put_blanks` meets its contract: the blocks so far stand in the buffer, those of the sums ahead are left, and each place is behind its block's words.
 use Rattle.std.proofs.Common.{[], add-zero, ap, arith, drop, get_or, get_or-set_other, get_or-set_same, length-set, refl, set, ℕ, ◌*◌, ◌++◌, ◌+◌, ◌-◌, ◌∙◌, ◌≡◌}
-use Rattle.prelude.specs.Laws.Choice.{lt_elim}
-use Rattle.prelude.specs.Laws.Grown.{Grown, grown_start, grown-space, grown-more, grown-rest-equal, grown-end}
+use Rattle.prelude.proofs.Laws.Choice.{lt_elim}
+use Rattle.prelude.proofs.Laws.Grown.{Grown, grown_start, grown-space, grown-more, grown-rest-equal, grown-end}
 use Rattle.calendar_writer.specs.Sums.{row_of, rows, units_to, none_yet}
-use Rattle.calendar_writer.specs.Laws.Turns.{rows_end, rows_more}
-use Rattle.calendar_writer.specs.Laws.Rows.{blank_step, units_first}
-use Rattle.calendar_writer.specs.Laws.Filling.{place_none}
+use Rattle.calendar_writer.proofs.Laws.Turns.{rows_end, rows_more}
+use Rattle.calendar_writer.proofs.Laws.Rows.{blank_step, units_first}
+use Rattle.calendar_writer.proofs.Laws.Filling.{place_none}
 use Rattle.calendar_writer.proofs.placing.put_blanks.Goals as goal
 
 pub loop-k-init : goal.loop-k-init

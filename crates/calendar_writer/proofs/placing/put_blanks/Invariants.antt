@@ -1,6 +1,6 @@
 -- `put_blanks` meets its contract: the blocks so far stand in the buffer, those of the sums ahead are left, and each place is behind its block's words.
 use Rattle.std.proofs.Common.{drop, get_or, length, ℕ, ◌*◌, ◌+◌, ◌-◌, ◌<◌, ◌≡◌, ◌≤◌}
-use Rattle.prelude.specs.Laws.Grown.{Grown}
+use Rattle.prelude.proofs.Laws.Grown.{Grown}
 use Rattle.calendar_writer.specs.Sums.{rows, units_to, none_yet}
 use Rattle.calendar_writer.proofs.placing.put_blanks.Given as goal
 

@@ -1,9 +1,9 @@
 -- `put_appointment` meets its contract: four bytes, the text and a zero.
 use Rattle.std.proofs.Common.{length, ◌++◌, ◌+◌}
-use Rattle.prelude.specs.Laws.Grown.{Grown, grown_start, grown-space, grown-last-fits, grown-more, grown-rest-equal, grown-last}
+use Rattle.prelude.proofs.Laws.Grown.{Grown, grown_start, grown-space, grown-last-fits, grown-more, grown-rest-equal, grown-last}
 use Rattle.calendar.specs.File.{zeros, appointment_bytes}
 use Rattle.calendar_writer.specs.Pieces.{appointment_head}
-use Rattle.calendar_writer.specs.Laws.Pieces.{appointment_pieces}
+use Rattle.calendar_writer.proofs.Laws.Pieces.{appointment_pieces}
 use Rattle.calendar_writer.proofs.puts.put_appointment.Goals as goal
 
 pub copy_in-second-requires : goal.copy_in-second-requires

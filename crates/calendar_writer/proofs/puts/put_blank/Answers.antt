@@ -1,11 +1,11 @@
 -- `put_blank` meets its contract: nothing, or the five words and zeros.
 -- before the first piece, and behind it
 use Rattle.std.proofs.Common.{[], arith, sym, ◌*◌, ◌++◌, ◌-◌}
-use Rattle.prelude.specs.Laws.Grown.{Grown, grown_start, grown-space, grown-last-fits, grown-more, grown-rest-equal, grown-last}
-use Rattle.prelude.specs.Laws.Splice.{splice-nil}
+use Rattle.prelude.proofs.Laws.Grown.{Grown, grown_start, grown-space, grown-last-fits, grown-more, grown-rest-equal, grown-last}
+use Rattle.prelude.proofs.Laws.Splice.{splice-nil}
 use Rattle.calendar.specs.File.{zeros}
 use Rattle.calendar_writer.specs.Sums.{units_for, block_head, row_of}
-use Rattle.calendar_writer.specs.Laws.Pieces.{blank_none, blank_some}
+use Rattle.calendar_writer.proofs.Laws.Pieces.{blank_none, blank_some}
 use Rattle.calendar_writer.proofs.puts.put_blank.Goals as goal
 
 pub returns-then-sum-eq0 : goal.returns-then-sum-eq0

@@ -1,10 +1,10 @@
 -- `put_head` meets its contract: three pieces, one behind the other.
 -- before the first piece, and behind each of the first two
 use Rattle.std.proofs.Common.{◌++◌}
-use Rattle.prelude.specs.Laws.Grown.{Grown, grown_start, grown-space, grown-last-fits, grown-more, grown-rest-equal, grown-last}
+use Rattle.prelude.proofs.Laws.Grown.{Grown, grown_start, grown-space, grown-last-fits, grown-more, grown-rest-equal, grown-last}
 use Rattle.calendar.specs.File.{zeros, head_bytes}
 use Rattle.calendar_writer.specs.Pieces.{head_mark, settings_words}
-use Rattle.calendar_writer.specs.Laws.Pieces.{head_pieces}
+use Rattle.calendar_writer.proofs.Laws.Pieces.{head_pieces}
 use Rattle.calendar_writer.proofs.puts.put_head.Goals as goal
 
 pub copy_in-second-requires : goal.copy_in-second-requires

@@ -1,8 +1,8 @@
 -- `put_table` meets its contract: the descriptors so far stand in the buffer, and those of the sums ahead are left.
 use Rattle.std.proofs.Common.{ap, arith, drop, get_or, sym, ℕ, ◌++◌, ◌+◌, ◌-◌, ◌∙◌, ◌≡◌}
-use Rattle.prelude.specs.Laws.Grown.{Grown, grown-space, grown-more, grown-rest-equal, grown-end}
+use Rattle.prelude.proofs.Laws.Grown.{Grown, grown-space, grown-more, grown-rest-equal, grown-end}
 use Rattle.calendar_writer.specs.Sums.{units_for, descriptor_of, sum_table}
-use Rattle.calendar_writer.specs.Laws.Turns.{table-end, table_none, table-some}
+use Rattle.calendar_writer.proofs.Laws.Turns.{table-end, table_none, table-some}
 use Rattle.calendar_writer.proofs.puts.put_table.Goals as goal
 
 pub put_descriptor-pos-requires : goal.put_descriptor-pos-requires

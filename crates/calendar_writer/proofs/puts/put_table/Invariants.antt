@@ -1,6 +1,6 @@
 -- `put_table` meets its contract: the descriptors so far stand in the buffer, and those of the sums ahead are left.
 use Rattle.std.proofs.Common.{drop, length, ◌*◌, ◌+◌, ◌-◌, ◌≤◌}
-use Rattle.prelude.specs.Laws.Grown.{Grown}
+use Rattle.prelude.proofs.Laws.Grown.{Grown}
 use Rattle.calendar.specs.File.{first_unit}
 use Rattle.calendar_writer.specs.DayLists.{most_days}
 use Rattle.calendar_writer.specs.Sums.{most_units, sum_table}

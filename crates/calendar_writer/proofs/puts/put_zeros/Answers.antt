@@ -1,7 +1,7 @@
 -- `put_zeros` meets its contract: so many zeros are written, and so many are left.
 use Rattle.std.proofs.Common.{[], arith, length, suc, ℕ, ◌++◌, ◌+◌, ◌-◌, ◌<◌, ◌∷◌, ◌≡◌}
 use lib.ListN.{length-replicate}
-use Rattle.prelude.specs.Laws.Grown.{grown-more, grown-rest-equal, grown-end, set-splice}
+use Rattle.prelude.proofs.Laws.Grown.{grown-more, grown-rest-equal, grown-end, set-splice}
 use Rattle.calendar.specs.File.{zeros}
 use Rattle.calendar_writer.proofs.puts.put_zeros.Goals as goal
 

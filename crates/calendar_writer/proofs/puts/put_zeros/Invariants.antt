@@ -1,6 +1,6 @@
 -- `put_zeros` meets its contract: so many zeros are written, and so many are left.
 use Rattle.std.proofs.Common.{◌+◌, ◌-◌, ◌≤◌}
-use Rattle.prelude.specs.Laws.Grown.{Grown}
+use Rattle.prelude.proofs.Laws.Grown.{Grown}
 use Rattle.calendar.specs.File.{zeros}
 use Rattle.calendar_writer.proofs.puts.put_zeros.Given as goal
 

@@ -1,7 +1,7 @@
 -- `weight_of` meets its contract: the mark decides.
 use Rattle.std.proofs.Common.{arith, ℕ}
 use Rattle.prelude.specs.Bytes.{bit}
-use Rattle.prelude.specs.Laws.Choice.{is_true, is_false}
+use Rattle.prelude.proofs.Laws.Choice.{is_true, is_false}
 use Rattle.calendar_writer.proofs.sums.weight_of.Goals as goal
 
 pub returns-then-alarm : goal.returns-then-alarm

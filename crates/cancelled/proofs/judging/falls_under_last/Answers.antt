@@ -1,8 +1,8 @@
 -- `falls_under_last` meets its contract: the day layer says whether there is such a day, then the rule decides.
 use Rattle.std.proofs.Common.{false, refl, sym, ◌∙◌, ◌≡◌}
-use Rattle.prelude.specs.Laws.Choice.{is_ge, lt_elim, constructors_differ}
+use Rattle.prelude.proofs.Laws.Choice.{is_ge, lt_elim, constructors_differ}
 use Rattle.days.specs.Days.{last_day}
-use Rattle.days.specs.Laws.Answers.{facts-given, facts_in_lem}
+use Rattle.days.proofs.Laws.Answers.{facts-given, facts_in_lem}
 use Rattle.cancelled.proofs.judging.falls_under_last.Goals as goal
 
 pub returns-in-Facts : goal.returns-in-Facts

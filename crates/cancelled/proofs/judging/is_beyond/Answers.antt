@@ -1,7 +1,7 @@
 -- `is_beyond` meets its contract: the list rises up to the entry, so that `beyond-back` says what the entry 16 places before tells.
 use Rattle.std.proofs.Common.{arith, sym, ◌∙◌}
-use Rattle.prelude.specs.Laws.Choice.{is_lt, is_ge, is_eq, is_ne}
-use Rattle.cancelled.specs.Laws.Entries.{beyond-back}
+use Rattle.prelude.proofs.Laws.Choice.{is_lt, is_ge, is_eq, is_ne}
+use Rattle.cancelled.proofs.Laws.Entries.{beyond-back}
 use Rattle.cancelled.proofs.judging.is_beyond.Goals as goal
 
 pub returns-then-i-lt-MOST_CANCELLED : goal.returns-then-i-lt-MOST_CANCELLED

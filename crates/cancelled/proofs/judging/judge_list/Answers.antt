@@ -1,11 +1,11 @@
 -- `judge_list` meets its contract. The loop keeps: the entries before i rise and are fine, and the walk stands at the record of the last of them.
 use Rattle.std.proofs.Common.{arith, false, get_or, refl, sym, true, ◌+◌, ◌-◌, ◌<◌, ◌∙◌, ◌≡◌}
-use Rattle.prelude.specs.Laws.Verdicts.{in-turn-first, in-turn-fine, in-turn-refused, in-turn-past}
+use Rattle.prelude.proofs.Laws.Verdicts.{in-turn-first, in-turn-fine, in-turn-refused, in-turn-past}
 use Rattle.book.specs.Books.{entry_at, places_of}
-use Rattle.book.specs.Laws.Books.{cursor_first, cursor-ahead}
-use Rattle.book.specs.Laws.Entries.{record_there}
+use Rattle.book.proofs.Laws.Books.{cursor_first, cursor-ahead}
+use Rattle.book.proofs.Laws.Entries.{record_there}
 use Rattle.cancelled.specs.Cancelled.{cancelled_number, cancelled_day, rises_at, may_cancel, is_beyond, list_verdict}
-use Rattle.cancelled.specs.Laws.Judging.{rises_up_start, rises_up_next, number_rises, in_order, refuse-out-of-order, refuse-other-day, accept-entry}
+use Rattle.cancelled.proofs.Laws.Judging.{rises_up_start, rises_up_next, number_rises, in_order, refuse-out-of-order, refuse-other-day, accept-entry}
 use Rattle.cancelled.proofs.judging.judge_list.Goals as goal
 
 pub loop-i-init : goal.loop-i-init

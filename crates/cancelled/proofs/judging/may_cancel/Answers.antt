@@ -1,7 +1,7 @@
 -- `may_cancel` meets its contract: the type says whether the record repeats, by `repeated_type_lem`, then the day is asked.
 use Rattle.std.proofs.Common.{sym, ◌∙◌}
 use Rattle.book.specs.Books.{entry_at}
-use Rattle.cancelled.specs.Laws.Judging.{repeated_type_lem, may_cancel-repeated, may_cancel_not}
+use Rattle.cancelled.proofs.Laws.Judging.{repeated_type_lem, may_cancel-repeated, may_cancel_not}
 use Rattle.cancelled.proofs.judging.may_cancel.Goals as goal
 
 pub returns-then-repeats : goal.returns-then-repeats

@@ -1,8 +1,8 @@
 -- `out_of_order` meets its contract: each return is the choice that its tests make, the seventeenth by its callee.
 use Rattle.std.proofs.Common.{arith, refl, sym, ◌∙◌}
-use Rattle.prelude.specs.Laws.Choice.{lt_yes, lt_no, if_by_true, if_by_false}
+use Rattle.prelude.proofs.Laws.Choice.{lt_yes, lt_no, if_by_true, if_by_false}
 use Rattle.cancelled.specs.Judging.{out_of_order}
-use Rattle.cancelled.specs.Laws.Judging.{rises_up_next}
+use Rattle.cancelled.proofs.Laws.Judging.{rises_up_next}
 use Rattle.cancelled.proofs.judging.out_of_order.Goals as goal
 
 pub is_beyond-requires : goal.is_beyond-requires

@@ -1,6 +1,6 @@
 -- `repeats` meets its contract: each return is the choice that its tests make.
 use Rattle.std.proofs.Common.{arith, refl}
-use Rattle.prelude.specs.Laws.Choice.{lt_yes, lt_no}
+use Rattle.prelude.proofs.Laws.Choice.{lt_yes, lt_no}
 use Rattle.cancelled.specs.Judging.{repeated_type}
 use Rattle.cancelled.proofs.judging.repeats.Goals as goal
 

@@ -1,6 +1,6 @@
 -- `rises_at` meets its contract: each return is the choice that its tests make.
 use Rattle.std.proofs.Common.{arith, refl}
-use Rattle.prelude.specs.Laws.Choice.{eq_yes, eq_no, lt_yes, lt_no}
+use Rattle.prelude.proofs.Laws.Choice.{eq_yes, eq_no, lt_yes, lt_no}
 use Rattle.cancelled.specs.Cancelled.{rises_at}
 use Rattle.cancelled.proofs.judging.rises_at.Goals as goal
 

@@ -1,6 +1,6 @@
 -- `judged_with` meets its contract: the book is accepted, so that the list decides.
-use Rattle.book.specs.Laws.Books.{book_accepted}
-use Rattle.cancelled.specs.Laws.Lists.{book_with_fine, book_with-refused}
+use Rattle.book.proofs.Laws.Books.{book_accepted}
+use Rattle.cancelled.proofs.Laws.Lists.{book_with_fine, book_with-refused}
 use Rattle.cancelled.proofs.reading.judged_with.Goals as goal
 
 pub judge_list-v-requires : goal.judge_list-v-requires

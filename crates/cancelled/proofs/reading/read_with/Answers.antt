@@ -1,6 +1,6 @@
 -- `read_with` meets its contract: the book decides, then its list.
 use Rattle.std.proofs.Common.{sym, ◌∙◌}
-use Rattle.cancelled.specs.Laws.Lists.{refused-book_with}
+use Rattle.cancelled.proofs.Laws.Lists.{refused-book_with}
 use Rattle.cancelled.proofs.reading.read_with.Goals as goal
 
 pub returns-in-Refused : goal.returns-in-Refused

@@ -1,8 +1,8 @@
 -- `check_chains` meets its contract: the verdict is answered, and what days promise is the theorem.
 use Rattle.std.proofs.Common.{arith, sym, ◌∙◌}
-use Rattle.chains.specs.Laws.Stages.{answer-days, answer-refused}
-use Rattle.chains.specs.Laws.Linked.{fine_passed}
-use Rattle.chains.specs.Laws.Theorem.{chains_promised}
+use Rattle.chains.proofs.Laws.Stages.{answer-days, answer-refused}
+use Rattle.chains.proofs.Laws.Linked.{fine_passed}
+use Rattle.chains.proofs.Laws.Theorem.{chains_promised}
 use Rattle.chains.proofs.checking.check_chains.Goals as goal
 
 pub overflow_sub-result : goal.overflow_sub-result

@@ -1,8 +1,8 @@
 -- `judge` meets its contract: each return is the choice that its tests make.
 use Rattle.std.proofs.Common.{arith, refl}
-use Rattle.prelude.specs.Laws.Choice.{eq_yes, eq_no, if_by_true, if_by_false}
+use Rattle.prelude.proofs.Laws.Choice.{eq_yes, eq_no, if_by_true, if_by_false}
 use Rattle.chains.specs.Chains.{chains_verdict}
-use Rattle.chains.specs.Laws.Linked.{sizes_ok_equal_lengths}
+use Rattle.chains.proofs.Laws.Linked.{sizes_ok_equal_lengths}
 use Rattle.chains.proofs.checking.judge.Goals as goal
 
 pub returns-then-count-eq0 : goal.returns-then-count-eq0

@@ -1,11 +1,11 @@
 -- `judge_all` meets its contract: each return is one of the judgements, those before it fine.
 use Rattle.std.proofs.Common.{arith, ◌-◌, ◌≡◌}
 use Rattle.chains.specs.Chains.{entries}
-use Rattle.chains.specs.Laws.Marks.{heads_in}
-use Rattle.chains.specs.Laws.Linked.{judged_linked}
+use Rattle.chains.proofs.Laws.Marks.{heads_in}
+use Rattle.chains.proofs.Laws.Linked.{judged_linked}
 use Rattle.chains.specs.Stages.{ChainsEnd}
-use Rattle.chains.specs.Laws.Theorem.{chains-end}
-use Rattle.chains.specs.Laws.Stages.{stop-entries, stop-heads, stop-links, chains-judged-order}
+use Rattle.chains.proofs.Laws.Theorem.{chains-end}
+use Rattle.chains.proofs.Laws.Stages.{stop-entries, stop-heads, stop-links, chains-judged-order}
 use Rattle.chains.proofs.checking.judge_all.Goals as goal
 
 pub returns-in-Refused : goal.returns-in-Refused

@@ -1,6 +1,6 @@
 -- `sizes_ok` meets its contract: each return is the choice that its tests make.
 use Rattle.std.proofs.Common.{arith, refl}
-use Rattle.prelude.specs.Laws.Choice.{lt_yes, lt_no, eq_yes, eq_no}
+use Rattle.prelude.proofs.Laws.Choice.{lt_yes, lt_no, eq_yes, eq_no}
 use Rattle.chains.specs.Chains.{sizes_ok}
 use Rattle.chains.proofs.checking.sizes_ok.Goals as goal
 

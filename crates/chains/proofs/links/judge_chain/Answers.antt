@@ -1,6 +1,6 @@
 -- `links::judge_chain` meets its contract. The loop keeps: the chain is linked as what is left of it from here on.
 use Rattle.std.proofs.Common.{arith, sym, ◌∙◌}
-use Rattle.chains.specs.Laws.Walks.{links-bad, links-on, links_end, links-out, next-none, next-out, next-other, next-back}
+use Rattle.chains.proofs.Laws.Walks.{links-bad, links-on, links_end, links-out, next-none, next-out, next-other, next-back}
 use Rattle.chains.proofs.links.judge_chain.Goals as goal
 
 pub returns-then-after : goal.returns-then-after

@@ -1,9 +1,9 @@
 -- `order::judge_chain` meets its contract. The loop keeps: the chain is ordered as what is left of it from here on, after rank low.
 use Rattle.std.proofs.Common.{ap, arith, sym, ◌∙◌}
-use Rattle.prelude.specs.Laws.Choice.{is_lt}
+use Rattle.prelude.proofs.Laws.Choice.{is_lt}
 use Rattle.chains.specs.Ranks.{ranked}
-use Rattle.chains.specs.Laws.Ranks.{ordered-ranked, ranks-bad, ranks-on, ranks-none}
-use Rattle.chains.specs.Laws.Steps.{ahead-less, ends_next}
+use Rattle.chains.proofs.Laws.Ranks.{ordered-ranked, ranks-bad, ranks-on, ranks-none}
+use Rattle.chains.proofs.Laws.Steps.{ahead-less, ends_next}
 use Rattle.chains.proofs.order.judge_chain.Goals as goal
 
 pub loop-here-init : goal.loop-here-init

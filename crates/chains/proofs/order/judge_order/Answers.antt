@@ -1,6 +1,6 @@
 -- `judge_order` meets its contract. The loop keeps: the chains are ordered as those from entry i on.
 use Rattle.std.proofs.Common.{arith, sym, ◌-◌, ◌∙◌}
-use Rattle.prelude.specs.Laws.Verdicts.{in-turn-fine, in-turn-refused, in-turn-past}
+use Rattle.prelude.proofs.Laws.Verdicts.{in-turn-fine, in-turn-refused, in-turn-past}
 use Rattle.chains.proofs.order.judge_order.Goals as goal
 
 pub loop-i-preserved : goal.loop-i-preserved

@@ -1,6 +1,6 @@
 -- `rank_of` meets its contract: each return is the choice that its tests make.
 use Rattle.std.proofs.Common.{arith, refl}
-use Rattle.prelude.specs.Laws.Choice.{lt_yes, lt_no, eq_yes, eq_no}
+use Rattle.prelude.proofs.Laws.Choice.{lt_yes, lt_no, eq_yes, eq_no}
 use Rattle.chains.specs.Ranks.{rank}
 use Rattle.chains.proofs.order.rank_of.Goals as goal
 

@@ -1,6 +1,6 @@
 -- `date_at` meets its contract: the number by computing; what a slice of bytes holds is below 256.
 use Rattle.std.proofs.Common.{arith}
-use Rattle.prelude.specs.Laws.Bytes.{at_bytes}
+use Rattle.prelude.proofs.Laws.Bytes.{at_bytes}
 use Rattle.chains.proofs.table.date_at.Goals as goal
 
 pub returns : goal.returns

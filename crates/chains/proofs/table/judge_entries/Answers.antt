@@ -1,8 +1,8 @@
 -- `judge_entries` meets its contract. The loop keeps: the first bad entry is the first from i on, and low is the least date of i.
 use Rattle.std.proofs.Common.{ap, arith, refl, sym, ◌-◌, ◌∙◌, ◌≡◌}
-use Rattle.prelude.specs.Laws.Verdicts.{unless_bad-true, unless_bad-false, in-turn-fine, in-turn-refused, in-turn-past}
+use Rattle.prelude.proofs.Laws.Verdicts.{unless_bad-true, unless_bad-false, in-turn-fine, in-turn-refused, in-turn-past}
 use Rattle.chains.specs.Chains.{entry_bad, entry_verdict}
-use Rattle.chains.specs.Laws.Dates.{day-judged, next_least}
+use Rattle.chains.proofs.Laws.Dates.{day-judged, next_least}
 use Rattle.chains.proofs.table.judge_entries.Goals as goal
 
 pub returns-then-day_bad : goal.returns-then-day_bad

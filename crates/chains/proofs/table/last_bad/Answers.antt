@@ -1,6 +1,6 @@
 -- `last_bad` meets its contract: each return is the choice that its tests make.
 use Rattle.std.proofs.Common.{arith, refl}
-use Rattle.prelude.specs.Laws.Choice.{lt_yes, lt_no, eq_yes, eq_no}
+use Rattle.prelude.proofs.Laws.Choice.{lt_yes, lt_no, eq_yes, eq_no}
 use Rattle.chains.specs.Chains.{entry_bad}
 use Rattle.chains.proofs.table.last_bad.Goals as goal
 

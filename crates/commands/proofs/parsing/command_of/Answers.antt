@@ -1,6 +1,6 @@
 -- `command_of` meets its contract: the number of words decides.
 use Rattle.commands.specs.Commands.{command_of}
-use Rattle.prelude.specs.Laws.Choice.{picks}
+use Rattle.prelude.proofs.Laws.Choice.{picks}
 use Rattle.commands.proofs.parsing.command_of.Goals as goal
 
 pub returns-then-n-eq2 : goal.returns-then-n-eq2

@@ -1,6 +1,6 @@
 -- `is_spelled` meets its contract: each return is the choice that its tests make.
 use Rattle.commands.specs.Words.{spelled}
-use Rattle.prelude.specs.Laws.Choice.{picks}
+use Rattle.prelude.proofs.Laws.Choice.{picks}
 use Rattle.commands.proofs.parsing.is_spelled.Goals as goal
 
 pub returns-then-w-d : goal.returns-then-w-d

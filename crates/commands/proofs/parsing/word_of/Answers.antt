@@ -1,6 +1,6 @@
 -- `word_of` meets its contract: each return is the choice that its tests make.
 use Rattle.std.proofs.Common.{ap}
-use Rattle.prelude.specs.Laws.Choice.{picks, if_by_true}
+use Rattle.prelude.proofs.Laws.Choice.{picks, if_by_true}
 use Rattle.commands.specs.Words.{word_of}
 use Rattle.commands.specs.declared.types.Word.{Word}
 use Rattle.commands.proofs.parsing.word_of.Goals as goal

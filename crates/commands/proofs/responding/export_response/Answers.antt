@@ -1,7 +1,7 @@
 -- `export_response` meets its contract: numbers past any span, the export's file as it stands, or its refusal's text in the untouched buffer.
 use Rattle.std.proofs.Common.{arith, length, sym, ◌∙◌}
-use Rattle.export.specs.Laws.Answers.{first_beyond, count_beyond}
-use Rattle.commands.specs.Laws.Responses.{export_beyond, export-written, export-refused}
+use Rattle.export.proofs.Laws.Answers.{first_beyond, count_beyond}
+use Rattle.commands.proofs.Laws.Responses.{export_beyond, export-written, export-refused}
 use Rattle.commands.proofs.responding.export_response.Goals as goal
 
 pub returns-then-first-gt65535 : goal.returns-then-first-gt65535

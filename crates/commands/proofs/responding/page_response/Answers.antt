@@ -1,6 +1,6 @@
 -- `page_response` meets its contract: a number past the last day, or what the printed page says.
 use Rattle.std.proofs.Common.{arith, sym, ◌∙◌}
-use Rattle.commands.specs.Laws.Responses.{page_beyond, print_count, print_refused}
+use Rattle.commands.proofs.Laws.Responses.{page_beyond, print_count, print_refused}
 use Rattle.commands.proofs.responding.page_response.Goals as goal
 
 pub returns-then-d-gt65535 : goal.returns-then-d-gt65535

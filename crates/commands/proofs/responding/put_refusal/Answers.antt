@@ -1,11 +1,11 @@
 -- `put_refusal` meets its contract: number, space, place and 0Ah, one behind the other.
 -- what is left to write
 use Rattle.std.proofs.Common.{[], arith, length, ◌++◌, ◌+◌, ◌∷◌, ◌≤◌}
-use Rattle.prelude.specs.Laws.Grown.{Grown, grown_start, grown-space, grown-last-fits, grown-more, grown-last}
+use Rattle.prelude.proofs.Laws.Grown.{Grown, grown_start, grown-space, grown-last-fits, grown-more, grown-last}
 use Rattle.digits.specs.Digits.{decimal}
 use Rattle.printing.specs.Printed.{newline, space as blank}
 use Rattle.commands.specs.Responses.{refusal_text}
-use Rattle.commands.specs.Laws.Responses.{length-refusal}
+use Rattle.commands.proofs.Laws.Responses.{length-refusal}
 use Rattle.commands.proofs.responding.put_refusal.Goals as goal
 
 pub put_decimal-a-requires : goal.put_decimal-a-requires

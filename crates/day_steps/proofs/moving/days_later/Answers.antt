@@ -1,8 +1,8 @@
 -- `days_later` meets its contract: the day reached and the days left come to the same day; a month's end is stepped over by `facts_next`.
 use Rattle.std.proofs.Common.{ap, arith, suc, ◌+◌, ◌∙◌, ◌≡◌}
 use Rattle.days.specs.Facts.{facts_of, next_facts}
-use Rattle.days.specs.Laws.Facts.{facts_next}
-use Rattle.day_steps.specs.Laws.Moves.{facts_at_day, day_of-facts, facts_at_day_of-month}
+use Rattle.days.proofs.Laws.Facts.{facts_next}
+use Rattle.day_steps.proofs.Laws.Moves.{facts_at_day, day_of-facts, facts_at_day_of-month}
 use Rattle.day_steps.proofs.moving.days_later.Goals as goal
 
 pub rest_of-rest-requires : goal.rest_of-rest-requires

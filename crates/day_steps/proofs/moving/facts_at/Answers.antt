@@ -1,7 +1,7 @@
 -- `facts_at` meets its contract: the date of a real date's day is that date, by `facts-on`.
 use Rattle.std.proofs.Common.{arith}
-use Rattle.days.specs.Laws.Days.{number_bound}
-use Rattle.day_steps.specs.Laws.Moves.{facts-on}
+use Rattle.days.proofs.Laws.Days.{number_bound}
+use Rattle.day_steps.proofs.Laws.Moves.{facts-on}
 use Rattle.day_steps.proofs.moving.facts_at.Goals as goal
 
 pub weekday_of-requires : goal.weekday_of-requires

@@ -1,6 +1,6 @@
 -- `in_month` meets its contract: in the same month only the day and the weekday change, by `on_by-facts`.
 use Rattle.std.proofs.Common.{arith}
-use Rattle.day_steps.specs.Laws.Moves.{facts_at_known, on_by-facts}
+use Rattle.day_steps.proofs.Laws.Moves.{facts_at_known, on_by-facts}
 use Rattle.day_steps.proofs.moving.in_month.Goals as goal
 
 pub overflow_add-result-3 : goal.overflow_add-result-3

@@ -1,12 +1,12 @@
 -- `moved_to` meets its contract: whether the date is real, and its day, by what its callee answers.
 -- the date is real, and n its day
 use Rattle.std.proofs.Common.{ap, arith, refl, sym, ◌∙◌, ◌≡◌}
-use Rattle.prelude.specs.Laws.Choice.{b_yes, b_no, lt_yes, lt_no}
+use Rattle.prelude.proofs.Laws.Choice.{b_yes, b_no, lt_yes, lt_no}
 use Rattle.days.specs.Days.{day_number}
 use Rattle.days.specs.Dates.{RealDate}
 use Rattle.days.specs.Facts.{facts_of}
-use Rattle.days.specs.Laws.Answers.{day_given, day_refused}
-use Rattle.days.specs.Laws.Dates.{facts_valid}
+use Rattle.days.proofs.Laws.Answers.{day_given, day_refused}
+use Rattle.days.proofs.Laws.Dates.{facts_valid}
 use Rattle.day_steps.specs.Moves.{moved_to}
 use Rattle.day_steps.proofs.moving.moved_to.Goals as goal
 

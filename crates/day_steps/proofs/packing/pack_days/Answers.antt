@@ -1,10 +1,10 @@
 -- `pack_days` meets its contract: so far each day stands at its place, and g is the next one's facts.
 use Rattle.std.proofs.Common.{ap, arith, get_or, get_or-set_other, get_or-set_same, length-set, set, suc, ◌+◌, ◌-◌, ◌∙◌, ◌≡◌}
-use Rattle.prelude.specs.Laws.Choice.{lt_elim}
+use Rattle.prelude.proofs.Laws.Choice.{lt_elim}
 use Rattle.days.specs.Facts.{facts_of, next_facts}
-use Rattle.days.specs.Laws.Facts.{facts_next}
+use Rattle.days.proofs.Laws.Facts.{facts_next}
 use Rattle.day_steps.specs.Codes.{day_code}
-use Rattle.day_steps.specs.Laws.Codes.{facts_known}
+use Rattle.day_steps.proofs.Laws.Codes.{facts_known}
 use Rattle.day_steps.proofs.packing.pack_days.Goals as goal
 
 pub day_code-requires : goal.day_code-requires

@@ -1,5 +1,5 @@
 -- `before` meets its contract: each return is the choice that its tests make.
-use Rattle.prelude.specs.Laws.Choice.{picks}
+use Rattle.prelude.proofs.Laws.Choice.{picks}
 use Rattle.days.specs.Dates.{before}
 use Rattle.days.proofs.dates.before.Goals as goal
 

@@ -1,5 +1,5 @@
 -- `is_leap` meets its contract: each return is the choice that its tests make.
-use Rattle.prelude.specs.Laws.Choice.{picks}
+use Rattle.prelude.proofs.Laws.Choice.{picks}
 use Rattle.days.specs.Dates.{leap}
 use Rattle.days.proofs.dates.is_leap.Goals as goal
 

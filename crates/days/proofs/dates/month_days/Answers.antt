@@ -1,5 +1,5 @@
 -- `month_days` meets its contract: each return is the choice that its tests make.
-use Rattle.prelude.specs.Laws.Choice.{picks}
+use Rattle.prelude.proofs.Laws.Choice.{picks}
 use Rattle.days.specs.Dates.{month_length}
 use Rattle.days.proofs.dates.month_days.Goals as goal
 

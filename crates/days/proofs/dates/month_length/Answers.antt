@@ -1,5 +1,5 @@
 -- `month_length` meets its contract: each return is the choice that its tests make.
-use Rattle.prelude.specs.Laws.Choice.{picks}
+use Rattle.prelude.proofs.Laws.Choice.{picks}
 use Rattle.days.specs.Answers.{length_answer}
 use Rattle.days.proofs.dates.month_length.Goals as goal
 

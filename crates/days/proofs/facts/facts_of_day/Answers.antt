@@ -1,6 +1,6 @@
 -- `facts_of_day` meets its contract: out of range the refusal, else the fields are what its callees give.
 use Rattle.std.proofs.Common.{arith}
-use Rattle.prelude.specs.Laws.Choice.{picks, lt_no}
+use Rattle.prelude.proofs.Laws.Choice.{picks, lt_no}
 use Rattle.days.specs.Answers.{facts_answer}
 use Rattle.days.specs.Facts.{facts_of}
 use Rattle.days.proofs.facts.facts_of_day.Goals as goal

@@ -1,5 +1,5 @@
 -- `next_day` meets its contract: each return is the choice that its tests make.
-use Rattle.prelude.specs.Laws.Choice.{picks}
+use Rattle.prelude.proofs.Laws.Choice.{picks}
 use Rattle.days.specs.Answers.{next_answer}
 use Rattle.days.proofs.facts.next_day.Goals as goal
 

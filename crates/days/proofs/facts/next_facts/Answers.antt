@@ -1,5 +1,5 @@
 -- `next_facts` meets its contract: each return is the choice that its tests make.
-use Rattle.prelude.specs.Laws.Choice.{picks}
+use Rattle.prelude.proofs.Laws.Choice.{picks}
 use Rattle.days.specs.Facts.{next_facts}
 use Rattle.days.proofs.facts.next_facts.Goals as goal
 

@@ -1,5 +1,5 @@
 -- `next_weekday` meets its contract: each return is the choice that its tests make.
-use Rattle.prelude.specs.Laws.Choice.{picks}
+use Rattle.prelude.proofs.Laws.Choice.{picks}
 use Rattle.days.specs.Days.{next_weekday}
 use Rattle.days.proofs.facts.next_weekday.Goals as goal
 

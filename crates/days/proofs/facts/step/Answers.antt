@@ -1,6 +1,6 @@
 -- `step` meets its contract: each return is the choice that its tests make.
 use Rattle.std.proofs.Common.{arith}
-use Rattle.prelude.specs.Laws.Choice.{picks, lt_yes}
+use Rattle.prelude.proofs.Laws.Choice.{picks, lt_yes}
 use Rattle.days.specs.Facts.{stepped}
 use Rattle.days.proofs.facts.step.Goals as goal
 

@@ -1,7 +1,7 @@
 -- `date_of` meets its contract: the month that the search found, by the law of a date in its month.
 use Rattle.std.proofs.Common.{sym}
 use Rattle.days.specs.Table.{InMonth}
-use Rattle.days.specs.Laws.Table.{date_in_month_lem}
+use Rattle.days.proofs.Laws.Table.{date_in_month_lem}
 use Rattle.days.proofs.numbers.date_of.Goals as goal
 
 pub returns : goal.returns

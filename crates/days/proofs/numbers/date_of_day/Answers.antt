@@ -1,5 +1,5 @@
 -- `date_of_day` meets its contract: each return is the choice that its tests make.
-use Rattle.prelude.specs.Laws.Choice.{picks}
+use Rattle.prelude.proofs.Laws.Choice.{picks}
 use Rattle.days.specs.Answers.{date_answer}
 use Rattle.days.proofs.numbers.date_of_day.Goals as goal
 

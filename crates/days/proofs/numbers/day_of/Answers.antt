@@ -1,7 +1,7 @@
 -- `day_of` meets its contract: the closed form is the start of the date's month.
 use Rattle.std.proofs.Common.{arith}
 use Rattle.days.specs.Days.{day_number}
-use Rattle.days.specs.Laws.Days.{number_bound}
+use Rattle.days.proofs.Laws.Days.{number_bound}
 use Rattle.days.proofs.MarchRule.{march_early, march_late}
 use Rattle.days.proofs.numbers.day_of.Goals as goal
 

@@ -1,8 +1,8 @@
 -- `day_of_date` meets its contract: the day's number where `is_real` says yes, else refused.
 use Rattle.std.proofs.Common.{sym, ◌∙◌}
-use Rattle.prelude.specs.Laws.Choice.{picks, if_by_true}
+use Rattle.prelude.proofs.Laws.Choice.{picks, if_by_true}
 use Rattle.days.specs.Answers.{day_answer}
-use Rattle.days.specs.Laws.Dates.{valid_facts}
+use Rattle.days.proofs.Laws.Dates.{valid_facts}
 use Rattle.days.proofs.numbers.day_of_date.Goals as goal
 
 pub day_of-requires : goal.day_of-requires

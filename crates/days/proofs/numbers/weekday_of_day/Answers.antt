@@ -1,5 +1,5 @@
 -- `weekday_of_day` meets its contract: each return is the choice that its tests make.
-use Rattle.prelude.specs.Laws.Choice.{picks}
+use Rattle.prelude.proofs.Laws.Choice.{picks}
 use Rattle.days.specs.Answers.{weekday_answer}
 use Rattle.days.proofs.numbers.weekday_of_day.Goals as goal
 

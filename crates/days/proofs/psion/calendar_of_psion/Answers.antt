@@ -1,5 +1,5 @@
 -- `calendar_of_psion` meets its contract: each return is the choice that its tests make.
-use Rattle.prelude.specs.Laws.Choice.{picks}
+use Rattle.prelude.proofs.Laws.Choice.{picks}
 use Rattle.days.specs.Answers.{calendar_of_psion}
 use Rattle.days.proofs.psion.calendar_of_psion.Goals as goal
 

@@ -1,5 +1,5 @@
 -- `psion_of_calendar` meets its contract: each return is the choice that its tests make.
-use Rattle.prelude.specs.Laws.Choice.{picks}
+use Rattle.prelude.proofs.Laws.Choice.{picks}
 use Rattle.days.specs.Answers.{psion_of_calendar}
 use Rattle.days.proofs.psion.psion_of_calendar.Goals as goal
 

@@ -2,7 +2,7 @@
 -- the months that each test leaves
 use Rattle.std.proofs.Common.{arith}
 use Rattle.days.specs.Halving.{Narrowed}
-use Rattle.days.specs.Laws.Halving.{narrowed_by_none, table-lower, table-upper}
+use Rattle.days.proofs.Laws.Halving.{narrowed_by_none, table-lower, table-upper}
 use Rattle.days.proofs.search.rest_of.Goals as goal
 
 pub rest_of_180-requires : goal.rest_of_180-requires

@@ -2,7 +2,7 @@
 -- the lower and the upper 90 months
 use Rattle.std.proofs.Common.{arith, ◌+◌}
 use Rattle.days.specs.Halving.{Narrowed}
-use Rattle.days.specs.Laws.Halving.{table-lower, table-upper, narrowed_by_five}
+use Rattle.days.proofs.Laws.Halving.{table-lower, table-upper, narrowed_by_five}
 use Rattle.days.proofs.search.rest_of_180.Goals as goal
 
 pub returns-then-n-t-2 : goal.returns-then-n-t-2

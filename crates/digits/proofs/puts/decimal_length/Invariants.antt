@@ -1,6 +1,6 @@
 -- `decimal_length` meets its contract. The loop counts the powers of ten up to n.
 use Rattle.std.proofs.Common.{◌+◌, ◌-◌}
-use Rattle.digits.specs.Laws.Decimal.{Powers}
+use Rattle.digits.proofs.Laws.Decimal.{Powers}
 use Rattle.digits.proofs.puts.decimal_length.Given as goal
 
 abbrev pub invariant-loop-power : goal.invariant-loop-power

@@ -1,6 +1,6 @@
 -- `put_byte` meets its contract: an element stored in place is a piece of one.
 use Rattle.std.proofs.Common.{arith, refl}
-use Rattle.prelude.specs.Laws.Grown.{set-splice}
+use Rattle.prelude.proofs.Laws.Grown.{set-splice}
 use Rattle.digits.proofs.puts.put_byte.Goals as goal
 
 pub returns : goal.returns

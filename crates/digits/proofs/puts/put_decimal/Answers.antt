@@ -1,8 +1,8 @@
 -- `put_decimal` meets its contract. The loop keeps: the digits of `left` are still to be written, and those behind them stand from i on.
 use Rattle.std.proofs.Common.{[], arith, ◌%◌, ◌*◌, ◌+◌, ◌-◌, ◌/◌, ◌≡◌}
-use Rattle.prelude.specs.Laws.Grown.{set-splice}
-use Rattle.digits.specs.Laws.Decimal.{decimal_one, decimal_more, length_positive, length_one}
-use Rattle.digits.specs.Laws.Backed.{backed-none, backed-before, backed-all}
+use Rattle.prelude.proofs.Laws.Grown.{set-splice}
+use Rattle.digits.proofs.Laws.Decimal.{decimal_one, decimal_more, length_positive, length_one}
+use Rattle.digits.proofs.Laws.Backed.{backed-none, backed-before, backed-all}
 use Rattle.digits.proofs.puts.put_decimal.Goals as goal
 
 pub loop-left-init : goal.loop-left-init

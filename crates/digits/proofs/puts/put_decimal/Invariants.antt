@@ -1,7 +1,7 @@
 -- `put_decimal` meets its contract. The loop keeps: the digits of `left` are still to be written, and those behind them stand from i on.
 use Rattle.std.proofs.Common.{◌-◌, ◌≤◌}
 use Rattle.digits.specs.Digits.{decimal}
-use Rattle.digits.specs.Laws.Backed.{Backed}
+use Rattle.digits.proofs.Laws.Backed.{Backed}
 use Rattle.digits.proofs.puts.put_decimal.Given as goal
 
 abbrev pub invariant-loop-left : goal.invariant-loop-left

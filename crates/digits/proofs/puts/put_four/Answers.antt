@@ -1,7 +1,7 @@
 -- `put_four` meets its contract: two pieces, one behind the other.
 -- before the first piece, and behind it
 use Rattle.std.proofs.Common.{◌++◌, ◌/◌}
-use Rattle.prelude.specs.Laws.Grown.{Grown, grown_start, grown-space, grown-last-fits, grown-more, grown-last}
+use Rattle.prelude.proofs.Laws.Grown.{Grown, grown_start, grown-space, grown-last-fits, grown-more, grown-last}
 use Rattle.digits.specs.Digits.{two, four}
 use Rattle.digits.proofs.puts.put_four.Goals as goal
 

@@ -1,6 +1,6 @@
 -- `put_two` meets its contract: two elements stored in place are a piece of two.
 use Rattle.std.proofs.Common.{add-one, arith, length-set, refl}
-use Rattle.prelude.specs.Laws.Grown.{sets-splice}
+use Rattle.prelude.proofs.Laws.Grown.{sets-splice}
 use Rattle.digits.specs.Digits.{two}
 use Rattle.digits.proofs.puts.put_two.Goals as goal
 

@@ -1,8 +1,8 @@
 -- `export` meets its contract: the book decides, and demand 3 is the theorem of crate `export`, by `demand-3-promised`.
 use Rattle.std.proofs.Common.{refl, sym, ◌∙◌}
 use Rattle.export.specs.Export.{export_from, leaves_file, shows_under}
-use Rattle.export.specs.Laws.Theorem.{demand-3-promised}
-use Rattle.export.specs.Laws.Export.{export-answer-from, export-leaves-from}
+use Rattle.export.proofs.Laws.Theorem.{demand-3-promised}
+use Rattle.export.proofs.Laws.Export.{export-answer-from, export-leaves-from}
 use Rattle.export.proofs.calls.export.Goals as goal
 
 pub returns-in-Accepted : goal.returns-in-Accepted

@@ -1,9 +1,9 @@
 -- `export_in` meets its contract: the span decides, and a span in range has its first day's facts.
 use Rattle.std.proofs.Common.{ap, arith, length, refl, sym, true, ℕ, ◌∙◌, ◌≡◌}
-use Rattle.prelude.specs.Laws.Choice.{is_true, is_false}
+use Rattle.prelude.proofs.Laws.Choice.{is_true, is_false}
 use Rattle.export.specs.Export.{span_ok, export_file, span_answer, export_from, leaves_file, shows_under}
-use Rattle.export.specs.Laws.Answers.{Span, span-facts}
-use Rattle.export.specs.Laws.Export.{first_facts, first_day_not_refused, span-leaves-leaves-file}
+use Rattle.export.proofs.Laws.Answers.{Span, span-facts}
+use Rattle.export.proofs.Laws.Export.{first_facts, first_day_not_refused, span-leaves-leaves-file}
 use Rattle.export.proofs.calls.export_in.Goals as goal
 
 pub export_span-requires : goal.export_span-requires

@@ -1,15 +1,15 @@
 -- `collect` meets its contract: a record that shows is taken in, another is passed, by the laws of `Collecting`.
 use Rattle.std.proofs.Common.{ap, arith, get_or, length, length-set, refl, ℕ, ◌-◌, ◌<◌, ◌∙◌, ◌≡◌}
-use Rattle.book.specs.Laws.Books.{cursor-ahead}
-use Rattle.book.specs.Laws.Counts.{count_most}
+use Rattle.book.proofs.Laws.Books.{cursor-ahead}
+use Rattle.book.proofs.Laws.Counts.{count_most}
 use Rattle.occurrences.specs.Rules.{rule_shows}
 use Rattle.occurrences.specs.Next.{Next}
 use Rattle.occurrences.specs.declared.types.Rule.{Rule}
-use Rattle.pages.specs.Laws.Codes.{codes_behind}
-use Rattle.occurrences.specs.Laws.After.{spanned_days, next_ahead}
+use Rattle.pages.proofs.Laws.Codes.{codes_behind}
+use Rattle.occurrences.proofs.Laws.After.{spanned_days, next_ahead}
 use Rattle.pages.specs.Invariants.{record_at}
 use Rattle.export.specs.Passes.{AtMost, marked, most_sum}
-use Rattle.export.specs.Laws.Collecting.{collect_start, collect-sound, collect-skip, collect-take, collect-end}
+use Rattle.export.proofs.Laws.Collecting.{collect_start, collect-sound, collect-skip, collect-take, collect-end}
 use Rattle.export.proofs.collecting.collect.Goals as goal
 
 pub loop-n-init : goal.loop-n-init

@@ -1,7 +1,7 @@
 -- `collect` meets its contract: a record that shows is taken in, another is passed, by the laws of `Collecting`.
 use Rattle.std.proofs.Common.{drop, length, ◌-◌, ◌≡◌, ◌≤◌}
 use Rattle.export.specs.Passes.{marked}
-use Rattle.export.specs.Laws.Collecting.{Collecting}
+use Rattle.export.proofs.Laws.Collecting.{Collecting}
 use Rattle.export.proofs.collecting.collect.Given as goal
 
 abbrev pub invariant-loop-n : goal.invariant-loop-n

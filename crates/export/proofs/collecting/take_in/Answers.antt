@@ -1,11 +1,11 @@
 -- `take_in` meets its contract: the record's times and text make its weight and its code.
 use Rattle.std.proofs.Common.{ap, arith, sym, ◌∙◌, ◌≡◌, ◌≤◌}
-use Rattle.prelude.specs.Laws.Bytes.{bit_most}
+use Rattle.prelude.proofs.Laws.Bytes.{bit_most}
 use Rattle.prelude.specs.declared.slices.Stretch.{Stretch}
 use Rattle.falls.specs.declared.types.Times.{Times}
 use Rattle.pages.specs.Invariants.{record_at}
 use Rattle.pages.specs.Codes.{code_with}
-use Rattle.pages.specs.Laws.Codes.{code_at}
+use Rattle.pages.proofs.Laws.Codes.{code_at}
 use Rattle.export.specs.Passes.{weighs}
 use Rattle.texts.specs.Notes.{most_text}
 use Rattle.export.proofs.collecting.take_in.Goals as goal

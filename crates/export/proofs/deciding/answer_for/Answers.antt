@@ -1,6 +1,6 @@
 -- `answer_for` meets its contract: each return by the tests before it.
 use Rattle.std.proofs.Common.{arith, refl}
-use Rattle.prelude.specs.Laws.Choice.{lt_yes, lt_no, b_yes, b_no}
+use Rattle.prelude.proofs.Laws.Choice.{lt_yes, lt_no, b_yes, b_no}
 use Rattle.export.specs.Export.{sized}
 use Rattle.export.proofs.deciding.answer_for.Goals as goal
 

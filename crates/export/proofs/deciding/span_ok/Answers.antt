@@ -1,6 +1,6 @@
 -- `span_ok` meets its contract: each return by the tests before it.
 use Rattle.export.specs.Export.{span_ok}
-use Rattle.prelude.specs.Laws.Choice.{picks}
+use Rattle.prelude.proofs.Laws.Choice.{picks}
 use Rattle.export.proofs.deciding.span_ok.Goals as goal
 
 pub returns-then-first-gt-LAST_DAY : goal.returns-then-first-gt-LAST_DAY

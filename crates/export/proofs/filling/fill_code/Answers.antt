@@ -3,18 +3,18 @@
 use Rattle.std.proofs.Common.{Bool, List, ap, arith, drop, get_or, length, length-take, length-take-le, sym, take, ℕ, ◌+◌, ◌<◌, ◌∙◌, ◌≡◌, ◌≤◌}
 use Rattle.prelude.specs.Bytes.{bit, part}
 use Rattle.prelude.specs.declared.slices.Stretch.{Stretch}
-use Rattle.prelude.specs.Laws.Splice.{take-splice}
+use Rattle.prelude.proofs.Laws.Splice.{take-splice}
 use Rattle.book.specs.Books.{entry_at}
 use Rattle.falls.specs.Times.{times_of}
 use Rattle.falls.specs.declared.types.Times.{Times}
 use Rattle.pages.specs.Codes.{place_in, decode}
 use Rattle.calendar.specs.File.{Appointment, appointment_bytes}
 use Rattle.export.specs.Export.{special_time, appointment_of}
-use Rattle.calendar.specs.Laws.File.{length_appointment}
+use Rattle.calendar.proofs.Laws.File.{length_appointment}
 use Rattle.occurrences.specs.Rules.{rule_of, rule_shows}
 use Rattle.occurrences.specs.declared.types.Rule.{Rule}
 use Rattle.calendar_writer.specs.Scatter.{Added, scatter}
-use Rattle.calendar_writer.specs.Laws.Scatter.{added-same, scatter-same}
+use Rattle.calendar_writer.proofs.Laws.Scatter.{added-same, scatter-same}
 use Rattle.export.specs.Passes.{marked}
 use Rattle.texts.specs.Notes.{most_text}
 use Rattle.export.proofs.filling.fill_code.Goals as goal

@@ -1,7 +1,7 @@
 -- `flags_of` meets its contract: the test decides flag 2.
 use Rattle.std.proofs.Common.{arith, ℕ}
-use Rattle.prelude.specs.Laws.Bytes.{bit_most}
-use Rattle.prelude.specs.Laws.Choice.{is_eq, is_ne}
+use Rattle.prelude.proofs.Laws.Bytes.{bit_most}
+use Rattle.prelude.proofs.Laws.Choice.{is_eq, is_ne}
 use Rattle.export.specs.Export.{special_time}
 use Rattle.export.proofs.filling.flags_of.Goals as goal
 

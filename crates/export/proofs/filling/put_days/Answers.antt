@@ -1,8 +1,8 @@
 -- `put_days` meets its contract: the blocks stand empty, and each record puts its appointment on its days, by the laws of `Ready`.
 use Rattle.std.proofs.Common.{arith, length, sym, ◌*◌, ◌+◌, ◌-◌, ◌∙◌, ◌≡◌, ◌≤◌}
 use Rattle.calendar_writer.specs.Sums.{rows, units_to, none_yet}
-use Rattle.calendar_writer.specs.Laws.Filling.{filled_self, filled_over}
-use Rattle.export.specs.Laws.Ready.{ready-sound, ready-long, blank-long, filled-so-far-zero, ready-room, filled-so-far-suc}
+use Rattle.calendar_writer.proofs.Laws.Filling.{filled_self, filled_over}
+use Rattle.export.proofs.Laws.Ready.{ready-sound, ready-long, blank-long, filled-so-far-zero, ready-room, filled-so-far-suc}
 use Rattle.export.proofs.filling.put_days.Goals as goal
 
 pub put_blanks-end-requires : goal.put_blanks-end-requires

@@ -2,9 +2,9 @@
 use Rattle.std.proofs.Common.{Bool, ap, arith, get_or, length, refl, sym, ℕ, ◌+◌, ◌-◌, ◌∙◌, ◌≡◌}
 use Rattle.prelude.specs.Splice.{splice}
 use Rattle.occurrences.specs.Rules.{rule_shows}
-use Rattle.occurrences.specs.Laws.After.{next_ahead}
+use Rattle.occurrences.proofs.Laws.After.{next_ahead}
 use Rattle.calendar_writer.specs.Scatter.{scatter}
-use Rattle.calendar_writer.specs.Laws.Scatter.{added_none, added-hit, scatter-end, scatter-hit, scatter-skip, scatter-first}
+use Rattle.calendar_writer.proofs.Laws.Scatter.{added_none, added-hit, scatter-end, scatter-hit, scatter-skip, scatter-first}
 use Rattle.export.proofs.scattering.put_hits.Goals as goal
 
 pub loop-j-init : goal.loop-j-init

@@ -1,6 +1,6 @@
 -- `code_of` meets its contract: each return by the tests before it.
 use Rattle.export.specs.Export.{code_of}
-use Rattle.prelude.specs.Laws.Choice.{picks}
+use Rattle.prelude.proofs.Laws.Choice.{picks}
 use Rattle.export.proofs.settings.code_of.Goals as goal
 
 pub returns-then-granularity-eq15 : goal.returns-then-granularity-eq15

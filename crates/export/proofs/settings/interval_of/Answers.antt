@@ -1,6 +1,6 @@
 -- `interval_of` meets its contract: each return by the tests before it.
 use Rattle.export.specs.Export.{interval_of}
-use Rattle.prelude.specs.Laws.Choice.{picks}
+use Rattle.prelude.proofs.Laws.Choice.{picks}
 use Rattle.export.proofs.settings.interval_of.Goals as goal
 
 pub returns-then-granularity-eq15 : goal.returns-then-granularity-eq15

@@ -2,14 +2,14 @@
 use Rattle.std.proofs.Common.{ap, arith, length, refl, sym, take, ℕ, ◌∙◌, ◌≡◌}
 use Rattle.prelude.specs.Splice.{splice}
 use Rattle.book.specs.Invariants.{AcceptedBook}
-use Rattle.book.specs.Laws.Books.{book_accepted}
+use Rattle.book.proofs.Laws.Books.{book_accepted}
 use Rattle.export.specs.Export.{export_days, export_file, span_answer, leaves_file, shows_under}
 use Rattle.calendar_writer.specs.DayLists.{past_last_block}
-use Rattle.export.specs.Laws.Answers.{span-written}
+use Rattle.export.proofs.Laws.Answers.{span-written}
 use Rattle.export.specs.Passes.{CountedBook, marked}
 use Rattle.export.specs.Invariants.{Gathered}
-use Rattle.export.specs.Laws.Books.{marked-shows}
-use Rattle.export.specs.Laws.Export.{collect-gathered, Measures, gathered-measures, span-answer-sized, span-leaves-from}
+use Rattle.export.proofs.Laws.Books.{marked-shows}
+use Rattle.export.proofs.Laws.Export.{collect-gathered, Measures, gathered-measures, span-answer-sized, span-leaves-from}
 use Rattle.export.proofs.working.export_days.Goals as goal
 
 pub collect-n-requires : goal.collect-n-requires

@@ -1,7 +1,7 @@
 -- `export_few` meets its contract: the fronts of its lists are as long as the span.
 use Rattle.std.proofs.Common.{arith, length, refl, take, ◌≡◌}
 use Rattle.calendar.specs.File.{zeros}
-use Rattle.export.specs.Laws.Export.{length-take-zeros, take-zeros_at_most}
+use Rattle.export.proofs.Laws.Export.{length-take-zeros, take-zeros_at_most}
 use Rattle.export.proofs.working.export_few.Goals as goal
 
 pub export_days-requires : goal.export_days-requires

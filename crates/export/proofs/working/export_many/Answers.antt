@@ -1,7 +1,7 @@
 -- `export_many` meets its contract: the fronts of its lists are as long as the span.
 use Rattle.std.proofs.Common.{arith, length, refl, take, ◌≡◌}
 use Rattle.calendar.specs.File.{zeros}
-use Rattle.export.specs.Laws.Export.{length-take-zeros, take-zeros_at_most, records_most}
+use Rattle.export.proofs.Laws.Export.{length-take-zeros, take-zeros_at_most, records_most}
 use Rattle.calendar_writer.specs.DayLists.{most_days}
 use Rattle.export.proofs.working.export_many.Goals as goal
 

@@ -2,12 +2,12 @@
 use Rattle.std.proofs.Common.{ap, arith, length, sym, take, ◌∙◌, ◌≡◌}
 use Rattle.prelude.specs.Splice.{splice}
 use Rattle.book.specs.Settings.{settings_of}
-use Rattle.pages.specs.Laws.Codes.{ordered-front}
+use Rattle.pages.proofs.Laws.Codes.{ordered-front}
 use Rattle.export.specs.Export.{settings_for, shows_under}
 use Rattle.export.specs.Passes.{marked}
 use Rattle.export.specs.Invariants.{ReadyToFill}
-use Rattle.export.specs.Laws.Ready.{gathered_ordered}
-use Rattle.export.specs.Laws.Export.{settings-interval, export-days, export-file}
+use Rattle.export.proofs.Laws.Ready.{gathered_ordered}
+use Rattle.export.proofs.Laws.Export.{settings-interval, export-days, export-file}
 use Rattle.export.proofs.writing.fill.Goals as goal
 
 pub put_file-requires : goal.put_file-requires

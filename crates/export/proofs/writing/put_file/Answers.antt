@@ -1,13 +1,13 @@
 -- `put_file` meets its contract: four pieces, one behind the other, by `ready-file`.
 use Rattle.std.proofs.Common.{ap, arith, length, sym, ℕ, ◌*◌, ◌++◌, ◌+◌, ◌-◌, ◌≡◌, ◌≤◌}
-use Rattle.prelude.specs.Laws.Grown.{Grown, grown_start, grown-space, grown-last-fits, grown-more, grown-rest-equal, grown-last}
+use Rattle.prelude.proofs.Laws.Grown.{Grown, grown_start, grown-space, grown-last-fits, grown-more, grown-rest-equal, grown-last}
 use Rattle.calendar.specs.File.{zeros, head_bytes, file_of}
 use Rattle.export.specs.Export.{appointments_for, shows_under}
 use Rattle.calendar_writer.specs.DayLists.{days_with, most_days}
-use Rattle.calendar.specs.Laws.File.{length_head}
+use Rattle.calendar.proofs.Laws.File.{length_head}
 use Rattle.calendar_writer.specs.Sums.{sum_table, rows}
 use Rattle.export.specs.Passes.{marked, so_far}
-use Rattle.export.specs.Laws.Ready.{ready-few, ready-table, ready-file}
+use Rattle.export.proofs.Laws.Ready.{ready-few, ready-table, ready-file}
 use Rattle.export.proofs.writing.put_file.Goals as goal
 
 pub first_unit-unit-requires : goal.first_unit-unit-requires

@@ -1,5 +1,5 @@
 -- `falling_on` meets its contract: the rule decides, and then the missing day.
-use Rattle.prelude.specs.Laws.Choice.{picks}
+use Rattle.prelude.proofs.Laws.Choice.{picks}
 use Rattle.falls.specs.Moved.{falling}
 use Rattle.falls.proofs.moved.falling_on.Goals as goal
 

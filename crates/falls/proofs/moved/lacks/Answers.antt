@@ -1,5 +1,5 @@
 -- `lacks` meets its contract: each return by the test before it.
-use Rattle.prelude.specs.Laws.Choice.{picks}
+use Rattle.prelude.proofs.Laws.Choice.{picks}
 use Rattle.falls.proofs.moved.lacks.Goals as goal
 
 pub returns-then-f-day : goal.returns-then-f-day

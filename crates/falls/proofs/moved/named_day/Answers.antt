@@ -1,6 +1,6 @@
 -- `named_day` meets its contract: the type picks the byte, by `named_type`.
-use Rattle.prelude.specs.Laws.Choice.{picks}
-use Rattle.falls.specs.Laws.Moved.{named_type}
+use Rattle.prelude.proofs.Laws.Choice.{picks}
+use Rattle.falls.proofs.Laws.Moved.{named_type}
 use Rattle.falls.proofs.moved.named_day.Goals as goal
 
 pub returns-then-t-eq3 : goal.returns-then-t-eq3

@@ -1,7 +1,7 @@
 -- `agrees` meets its contract: the type picks the byte.
 use Rattle.std.proofs.Common.{rules}
 use Rattle.falls.specs.Agrees.{agrees}
-use Rattle.prelude.specs.Laws.Choice.{picks}
+use Rattle.prelude.proofs.Laws.Choice.{picks}
 use Rattle.falls.proofs.rules.agrees.Goals as goal
 
 pub returns-then-t-eq1 : goal.returns-then-t-eq1

@@ -1,6 +1,6 @@
 -- `dated_falls` meets its contract: each return by the tests before it.
 use Rattle.falls.specs.Falls.{dated_falls}
-use Rattle.prelude.specs.Laws.Choice.{picks}
+use Rattle.prelude.proofs.Laws.Choice.{picks}
 use Rattle.falls.proofs.rules.dated_falls.Goals as goal
 
 pub returns-then-f-d-3 : goal.returns-then-f-d-3

@@ -1,8 +1,8 @@
 -- `falls_on` meets its contract: the type picks the rule, by `falls_type`.
 use Rattle.std.proofs.Common.{ap, rules, ◌∙◌}
 use Rattle.falls.specs.Falls.{dated_falls, weekly_falls, by_date_falls, by_position_falls, yearly_falls}
-use Rattle.falls.specs.Laws.Falls.{falls_type}
-use Rattle.prelude.specs.Laws.Choice.{picks}
+use Rattle.falls.proofs.Laws.Falls.{falls_type}
+use Rattle.prelude.proofs.Laws.Choice.{picks}
 use Rattle.falls.proofs.rules.falls_on.Goals as goal
 
 pub returns-then-t-eq1 : goal.returns-then-t-eq1

@@ -1,7 +1,7 @@
 -- `in_span` meets its contract: each return by the tests before it.
 use Rattle.std.proofs.Common.{rules}
 use Rattle.falls.specs.Falls.{in_span}
-use Rattle.prelude.specs.Laws.Choice.{picks}
+use Rattle.prelude.proofs.Laws.Choice.{picks}
 use Rattle.falls.proofs.rules.in_span.Goals as goal
 
 pub returns-then-before : goal.returns-then-before

@@ -1,7 +1,7 @@
 -- `yearly_falls` meets its contract: each return by the tests before it.
 use Rattle.std.proofs.Common.{rules}
 use Rattle.falls.specs.Falls.{yearly_falls}
-use Rattle.prelude.specs.Laws.Choice.{picks}
+use Rattle.prelude.proofs.Laws.Choice.{picks}
 use Rattle.falls.proofs.rules.yearly_falls.Goals as goal
 
 pub returns-then-on_day : goal.returns-then-on_day

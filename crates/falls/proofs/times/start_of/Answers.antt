@@ -1,7 +1,7 @@
 -- `start_of` meets its contract: the type picks the place, by `start_type`.
 use Rattle.std.proofs.Common.{ap}
-use Rattle.falls.specs.Laws.Falls.{minute, start_type}
-use Rattle.prelude.specs.Laws.Choice.{picks}
+use Rattle.falls.proofs.Laws.Falls.{minute, start_type}
+use Rattle.prelude.proofs.Laws.Choice.{picks}
 use Rattle.falls.proofs.times.start_of.Goals as goal
 
 pub returns-then-t-eq1 : goal.returns-then-t-eq1

@@ -5,8 +5,8 @@ use Rattle.records.specs.declared.types.MonthlyByDate.{MonthlyByDate}
 use Rattle.records.specs.declared.types.MonthlyByPosition.{MonthlyByPosition}
 use Rattle.records.specs.declared.types.Yearly.{Yearly}
 use Rattle.falls.specs.Times.{dated_times, repeat_times}
-use Rattle.falls.specs.Laws.Falls.{times_type}
-use Rattle.prelude.specs.Laws.Choice.{picks}
+use Rattle.falls.proofs.Laws.Falls.{times_type}
+use Rattle.prelude.proofs.Laws.Choice.{picks}
 use Rattle.falls.proofs.times.times_of.Goals as goal
 
 pub returns-then-t-eq1 : goal.returns-then-t-eq1

@@ -1,6 +1,6 @@
 -- `choice_of` meets its contract: by its test.
 use Rattle.marshal.specs.PageAnswers.{choice_of}
-use Rattle.prelude.specs.Laws.Choice.{picks}
+use Rattle.prelude.proofs.Laws.Choice.{picks}
 use Rattle.marshal.proofs.page_answers.choice_of.Goals as goal
 
 pub returns-then-last : goal.returns-then-last

@@ -1,5 +1,5 @@
 -- `check_off_in` meets its contract: each return is the choice that its test makes.
-use Rattle.prelude.specs.Laws.Choice.{picks}
+use Rattle.prelude.proofs.Laws.Choice.{picks}
 use Rattle.marshal.specs.RecordArguments.{check_off_in}
 use Rattle.marshal.proofs.record_arguments.check_off_in.Goals as goal
 

@@ -1,6 +1,6 @@
 -- `record_in` meets its contract: each return is the choice that its tests make.
 use Rattle.std.proofs.Common.{ap}
-use Rattle.prelude.specs.Laws.Choice.{picks}
+use Rattle.prelude.proofs.Laws.Choice.{picks}
 use Rattle.records.specs.declared.types.Repeat.{Repeat}
 use Rattle.records.specs.declared.types.Record.{Record}
 use Rattle.marshal.specs.RecordArguments.{record_in}

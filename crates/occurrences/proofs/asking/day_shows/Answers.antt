@@ -2,7 +2,7 @@
 use Rattle.std.proofs.Common.{arith}
 use Rattle.occurrences.specs.Rules.{day_shows}
 use Rattle.std.proofs.Common.{arith}
-use Rattle.prelude.specs.Laws.Choice.{lt_yes, lt_no}
+use Rattle.prelude.proofs.Laws.Choice.{lt_yes, lt_no}
 use Rattle.occurrences.proofs.asking.day_shows.Goals as goal
 
 pub returns-then-month_length_in-day : goal.returns-then-month_length_in-day

@@ -2,7 +2,7 @@
 use Rattle.std.proofs.Common.{arith}
 use Rattle.occurrences.specs.Rules.{in_dates}
 use Rattle.std.proofs.Common.{refl, arith}
-use Rattle.prelude.specs.Laws.Choice.{lt_yes, lt_no}
+use Rattle.prelude.proofs.Laws.Choice.{lt_yes, lt_no}
 use Rattle.occurrences.proofs.asking.in_dates.Goals as goal
 
 pub returns-then-date-r : goal.returns-then-date-r

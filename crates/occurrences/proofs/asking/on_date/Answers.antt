@@ -1,6 +1,6 @@
 -- `on_date` meets its contract: each return by the tests before it.
 use Rattle.occurrences.specs.Rules.{on_date}
-use Rattle.prelude.specs.Laws.Choice.{picks}
+use Rattle.prelude.proofs.Laws.Choice.{picks}
 use Rattle.occurrences.proofs.asking.on_date.Goals as goal
 
 pub returns-then-r-eq2 : goal.returns-then-r-eq2

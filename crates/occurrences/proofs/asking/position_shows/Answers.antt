@@ -1,7 +1,7 @@
 -- `position_shows` meets its contract: each return by the tests before it.
 use Rattle.std.proofs.Common.{arith}
 use Rattle.std.proofs.Common.{refl, arith}
-use Rattle.prelude.specs.Laws.Choice.{eq_yes, eq_no}
+use Rattle.prelude.proofs.Laws.Choice.{eq_yes, eq_no}
 use Rattle.occurrences.proofs.asking.position_shows.Goals as goal
 
 pub returns-then-weekday_in-r : goal.returns-then-weekday_in-r

@@ -1,6 +1,6 @@
 -- `rule_shows` meets its contract: each return by the test before it.
 use Rattle.occurrences.specs.Rules.{rule_shows}
-use Rattle.prelude.specs.Laws.Choice.{picks}
+use Rattle.prelude.proofs.Laws.Choice.{picks}
 use Rattle.occurrences.proofs.asking.rule_shows.Goals as goal
 
 pub returns-then-on_date : goal.returns-then-on_date

@@ -5,10 +5,10 @@ use Rattle.days.specs.Facts.{facts_of}
 use Rattle.days.specs.declared.types.DayFacts.{DayFacts}
 use Rattle.day_steps.specs.Codes.{day_code}
 use Rattle.occurrences.specs.Rules.{rule_shows, wait_for}
-use Rattle.occurrences.specs.Laws.Waits.{wait_least}
-use Rattle.day_steps.specs.Laws.Moves.{Reaches, facts_at_day, day_of-facts, facts_at_known}
-use Rattle.occurrences.specs.Laws.Find.{start_reaches, search-shown, Free, free-join, free-before, free-after, free-wait}
-use Rattle.occurrences.specs.Laws.Next.{next-hit, next-end}
+use Rattle.occurrences.proofs.Laws.Waits.{wait_least}
+use Rattle.day_steps.proofs.Laws.Moves.{Reaches, facts_at_day, day_of-facts, facts_at_known}
+use Rattle.occurrences.proofs.Laws.Find.{start_reaches, search-shown, Free, free-join, free-before, free-after, free-wait}
+use Rattle.occurrences.proofs.Laws.Next.{next-hit, next-end}
 use Rattle.occurrences.proofs.finding.next_shown.Goals as goal
 
 pub loop-c-init : goal.loop-c-init

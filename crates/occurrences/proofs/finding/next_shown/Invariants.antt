@@ -2,7 +2,7 @@
 use Rattle.std.proofs.Common.{◌-◌, ◌≤◌}
 use Rattle.days.specs.Days.{last_day}
 use Rattle.day_steps.specs.Moves.{FactsAt}
-use Rattle.occurrences.specs.Laws.Find.{Free}
+use Rattle.occurrences.proofs.Laws.Find.{Free}
 use Rattle.occurrences.proofs.finding.next_shown.Given as goal
 
 abbrev pub invariant-loop-c : goal.invariant-loop-c

@@ -1,7 +1,7 @@
 -- `start_from` meets its contract: its test is the definition's, and its callees give the date's facts.
 use Rattle.std.proofs.Common.{arith}
 use Rattle.std.proofs.Common.{refl, ap, ◌∙◌, arith}
-use Rattle.prelude.specs.Laws.Choice.{lt_yes, lt_no}
+use Rattle.prelude.proofs.Laws.Choice.{lt_yes, lt_no}
 use Rattle.day_steps.specs.Moves.{moved_to}
 use Rattle.occurrences.specs.Rules.{start_from}
 use Rattle.occurrences.proofs.finding.start_from.Goals as goal

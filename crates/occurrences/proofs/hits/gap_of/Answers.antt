@@ -1,5 +1,5 @@
 -- `gap_of` meets its contract: its test is the definition's.
-use Rattle.prelude.specs.Laws.Choice.{picks}
+use Rattle.prelude.proofs.Laws.Choice.{picks}
 use Rattle.occurrences.specs.Rules.{gap_of}
 use Rattle.occurrences.proofs.hits.gap_of.Goals as goal
 

@@ -1,9 +1,9 @@
 -- `next_from` meets its contract: no day passed shows, the skipped ones by `spanned_not`.
 use Rattle.std.proofs.Common.{arith}
 use Rattle.std.proofs.Common.{◌≡◌, ◌-◌, false, get_or, sym, ◌∙◌, arith}
-use Rattle.prelude.specs.Laws.Choice.{lt_elim}
+use Rattle.prelude.proofs.Laws.Choice.{lt_elim}
 use Rattle.occurrences.specs.Rules.{rule_shows}
-use Rattle.occurrences.specs.Laws.Waits.{wait_least, spanned_not}
+use Rattle.occurrences.proofs.Laws.Waits.{wait_least, spanned_not}
 use Rattle.occurrences.proofs.hits.next_from.Goals as goal
 
 pub loop-j-smaller : goal.loop-j-smaller

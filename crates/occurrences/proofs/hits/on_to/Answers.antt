@@ -1,7 +1,7 @@
 -- `on_to` meets its contract: the place that it gives is past days before the date, since one of them was looked at and dates rise.
 use Rattle.std.proofs.Common.{arith}
 use Rattle.std.proofs.Common.{◌-◌, length, arith}
-use Rattle.occurrences.specs.Laws.After.{ahead-at, ahead-all}
+use Rattle.occurrences.proofs.Laws.After.{ahead-at, ahead-all}
 use Rattle.occurrences.proofs.hits.on_to.Goals as goal
 
 pub returns-then-date_in-date : goal.returns-then-date_in-date

@@ -1,7 +1,7 @@
 -- `week_after` meets its contract: the days end, the rule ends, or it shows, by the laws of a week later.
 use Rattle.std.proofs.Common.{arith}
 use Rattle.std.proofs.Common.{arith}
-use Rattle.occurrences.specs.Laws.After.{week-days, week-dates, week-shows}
+use Rattle.occurrences.proofs.Laws.After.{week-days, week-dates, week-shows}
 use Rattle.occurrences.proofs.hits.week_after.Goals as goal
 
 pub returns-then-days-k : goal.returns-then-days-k

@@ -8,8 +8,8 @@ use Rattle.records.specs.declared.types.Yearly.{Yearly}
 use Rattle.day_steps.specs.Codes.{date_code}
 use Rattle.occurrences.specs.Rules.{repeated, rule_of}
 use Rattle.occurrences.specs.declared.types.Rule.{Rule}
-use Rattle.falls.specs.Laws.Falls.{by_type}
-use Rattle.prelude.specs.Laws.Choice.{picks}
+use Rattle.falls.proofs.Laws.Falls.{by_type}
+use Rattle.prelude.proofs.Laws.Choice.{picks}
 use Rattle.occurrences.proofs.reading.rule_of.Goals as goal
 
 abbrev dated : ℕ → Rule

@@ -2,7 +2,7 @@
 use Rattle.std.proofs.Common.{arith}
 use Rattle.occurrences.specs.Rules.{to_date}
 use Rattle.std.proofs.Common.{refl, arith}
-use Rattle.prelude.specs.Laws.Choice.{lt_yes, lt_no}
+use Rattle.prelude.proofs.Laws.Choice.{lt_yes, lt_no}
 use Rattle.occurrences.proofs.waiting.to_date.Goals as goal
 
 pub returns-then-date-today : goal.returns-then-date-today

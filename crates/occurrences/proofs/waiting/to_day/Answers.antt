@@ -2,7 +2,7 @@
 use Rattle.std.proofs.Common.{arith}
 use Rattle.occurrences.specs.Rules.{to_day}
 use Rattle.std.proofs.Common.{refl, arith}
-use Rattle.prelude.specs.Laws.Choice.{lt_yes, lt_no}
+use Rattle.prelude.proofs.Laws.Choice.{lt_yes, lt_no}
 use Rattle.occurrences.proofs.waiting.to_day.Goals as goal
 
 pub returns-then-today-length : goal.returns-then-today-length

@@ -2,7 +2,7 @@
 use Rattle.std.proofs.Common.{arith}
 use Rattle.occurrences.specs.Rules.{wait_for}
 use Rattle.std.proofs.Common.{refl, arith}
-use Rattle.prelude.specs.Laws.Choice.{picks, lt_yes, lt_no}
+use Rattle.prelude.proofs.Laws.Choice.{picks, lt_yes, lt_no}
 use Rattle.occurrences.proofs.waiting.wait_for.Goals as goal
 
 pub returns-then-r-date_in : goal.returns-then-r-date_in

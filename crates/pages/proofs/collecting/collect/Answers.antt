@@ -2,11 +2,11 @@
 use Rattle.std.proofs.Common.{List, add-one, ap, arith, length-set, map, refl, suc, sym, take, ℕ, ◌++◌, ◌+◌, ◌-◌, ◌∙◌, ◌∷◌, ◌≡◌}
 use Rattle.sorting.specs.Keep.{keep}
 use Rattle.days.specs.declared.types.Minute.{Minute}
-use Rattle.book.specs.Laws.Books.{cursor_first, cursor-ahead}
+use Rattle.book.proofs.Laws.Books.{cursor_first, cursor-ahead}
 use Rattle.pages.specs.Pages.{Numbered, falls_on}
 use Rattle.pages.specs.Codes.{code_with, code}
-use Rattle.pages.specs.Laws.Codes.{code_at, codes_push, codes_behind, append_nil_whole}
-use Rattle.pages.specs.Laws.Pages.{numbered_at, numbered_first, Turn, numbered_cursor, keep-numbered-yes, keep-numbered-no, keep-numbered_end}
+use Rattle.pages.proofs.Laws.Codes.{code_at, codes_push, codes_behind, append_nil_whole}
+use Rattle.pages.proofs.Laws.Pages.{numbered_at, numbered_first, Turn, numbered_cursor, keep-numbered-yes, keep-numbered-no, keep-numbered_end}
 use Rattle.pages.specs.Invariants.{record_at}
 use Rattle.pages.proofs.collecting.collect.Goals as goal
 

@@ -1,10 +1,10 @@
 -- `collect` meets its contract: the codes so far, and those of the records ahead that fall on the day, are all there are.
 use Rattle.std.proofs.Common.{drop, length, map, take, ◌++◌, ◌+◌, ◌-◌, ◌≡◌, ◌≤◌}
 use Rattle.sorting.specs.Keep.{keep}
-use Rattle.book.specs.Laws.Books.{Cursor}
+use Rattle.book.proofs.Laws.Books.{Cursor}
 use Rattle.pages.specs.Pages.{numbered, falls_on}
 use Rattle.pages.specs.Codes.{code}
-use Rattle.pages.specs.Laws.Pages.{numbered_at}
+use Rattle.pages.proofs.Laws.Pages.{numbered_at}
 use Rattle.pages.proofs.collecting.collect.Given as goal
 
 abbrev pub invariant-loop-n : goal.invariant-loop-n

@@ -1,9 +1,9 @@
 -- `count_lines` meets its contract: so many are counted, and so many of the records ahead fall on the day.
 use Rattle.std.proofs.Common.{List, add-one, ap, arith, length, sym, zero-add, ◌-◌, ◌∙◌}
 use Rattle.sorting.specs.Keep.{keep}
-use Rattle.book.specs.Laws.Books.{cursor_first, cursor-ahead}
+use Rattle.book.proofs.Laws.Books.{cursor_first, cursor-ahead}
 use Rattle.pages.specs.Pages.{Numbered, falls_on}
-use Rattle.pages.specs.Laws.Pages.{numbered_first, Turn, numbered_cursor, keep-numbered-yes, keep-numbered-no, keep-numbered_end, length_page}
+use Rattle.pages.proofs.Laws.Pages.{numbered_first, Turn, numbered_cursor, keep-numbered-yes, keep-numbered-no, keep-numbered_end, length_page}
 use Rattle.pages.proofs.collecting.count_lines.Goals as goal
 
 pub loop-n-init : goal.loop-n-init

@@ -1,9 +1,9 @@
 -- `count_lines` meets its contract: so many are counted, and so many of the records ahead fall on the day.
 use Rattle.std.proofs.Common.{length, ◌+◌, ◌-◌, ◌≡◌, ◌≤◌}
 use Rattle.sorting.specs.Keep.{keep}
-use Rattle.book.specs.Laws.Books.{Cursor}
+use Rattle.book.proofs.Laws.Books.{Cursor}
 use Rattle.pages.specs.Pages.{numbered, falls_on}
-use Rattle.pages.specs.Laws.Pages.{numbered_at}
+use Rattle.pages.proofs.Laws.Pages.{numbered_at}
 use Rattle.pages.proofs.collecting.count_lines.Given as goal
 
 abbrev pub invariant-loop-n : goal.invariant-loop-n

@@ -1,7 +1,7 @@
 -- `line_at` meets its contract: the book and the day decide, then the line's number.
 use Rattle.std.proofs.Common.{ap, sym, ◌∙◌}
 use Rattle.pages.specs.Answers.{page_line_in}
-use Rattle.pages.specs.Laws.Pages.{validated_ready}
+use Rattle.pages.proofs.Laws.Pages.{validated_ready}
 use Rattle.pages.proofs.lines.line_at.Goals as goal
 
 pub line_in-requires : goal.line_in-requires

@@ -1,6 +1,6 @@
 -- `line_in` meets its contract: either working space has room for all records.
 use Rattle.std.proofs.Common.{arith}
-use Rattle.pages.specs.Laws.Pages.{ready_most}
+use Rattle.pages.proofs.Laws.Pages.{ready_most}
 use Rattle.pages.proofs.lines.line_in.Goals as goal
 
 pub line_with-requires-2 : goal.line_with-requires-2

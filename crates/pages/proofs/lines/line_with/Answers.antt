@@ -1,7 +1,7 @@
 -- `line_with` meets its contract: the code at that place of the ordered page, by `nth-code`, or none.
 use Rattle.std.proofs.Common.{ap, arith, sym, ◌∙◌}
 use Rattle.pages.specs.Answers.{page_line_in}
-use Rattle.pages.specs.Laws.Nth.{nth-code, nth-no-code}
+use Rattle.pages.proofs.Laws.Nth.{nth-code, nth-no-code}
 use Rattle.pages.specs.declared.types.LineAnswer.{LineAnswer}
 use Rattle.pages.proofs.lines.line_with.Goals as goal
 

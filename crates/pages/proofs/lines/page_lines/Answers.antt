@@ -1,7 +1,7 @@
 -- `page_lines` meets its contract: the book and the day decide, then the count.
 use Rattle.std.proofs.Common.{ap, sym, ◌∙◌}
 use Rattle.pages.specs.Answers.{page_count_in}
-use Rattle.pages.specs.Laws.Pages.{validated_ready}
+use Rattle.pages.proofs.Laws.Pages.{validated_ready}
 use Rattle.prelude.specs.declared.answers.CountAnswer.{CountAnswer}
 use Rattle.pages.proofs.lines.page_lines.Goals as goal
 

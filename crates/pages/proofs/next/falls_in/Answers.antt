@@ -1,10 +1,10 @@
 -- `falls_in` meets its contract: the record of that number, by `nth-record`, or none.
 use Rattle.std.proofs.Common.{ap, arith, sym, ℕ, ◌∙◌}
 use Rattle.book.specs.Books.{entry_at}
-use Rattle.book.specs.Laws.Entries.{record_there}
+use Rattle.book.proofs.Laws.Entries.{record_there}
 use Rattle.falls.specs.Moved.{falling}
 use Rattle.pages.specs.Answers.{falls_in}
-use Rattle.pages.specs.Laws.Nth.{nth-record, nth-no-record}
+use Rattle.pages.proofs.Laws.Nth.{nth-record, nth-no-record}
 use Rattle.pages.specs.declared.types.FallsAnswer.{FallsAnswer}
 use Rattle.pages.proofs.next.falls_in.Goals as goal
 

@@ -2,12 +2,12 @@
 use Rattle.std.proofs.Common.{ap, arith, sym, ℕ, ◌∙◌}
 use Rattle.book.specs.Books.{entry_at}
 use Rattle.occurrences.specs.Rules.{rule_of}
-use Rattle.occurrences.specs.Laws.Find.{search-shown}
+use Rattle.occurrences.proofs.Laws.Find.{search-shown}
 use Rattle.occurrences.specs.declared.types.Rule.{Rule}
 use Rattle.pages.specs.Answers.{next_in}
 use Rattle.pages.specs.Next.{next_of}
-use Rattle.pages.specs.Laws.Nth.{nth-record, nth-no-record}
-use Rattle.pages.specs.Laws.Search.{rule_next, record_sound}
+use Rattle.pages.proofs.Laws.Nth.{nth-record, nth-no-record}
+use Rattle.pages.proofs.Laws.Search.{rule_next, record_sound}
 use Rattle.pages.proofs.next.next_in.Goals as goal
 
 pub returns-then-k-a : goal.returns-then-k-a

@@ -2,7 +2,7 @@
 use Rattle.std.proofs.Common.{ap, sym, ◌∙◌}
 use Rattle.pages.specs.Answers.{next_in}
 use Rattle.pages.specs.Pages.{falls_on}
-use Rattle.pages.specs.Laws.Pages.{validated_ready}
+use Rattle.pages.proofs.Laws.Pages.{validated_ready}
 use Rattle.pages.proofs.next.next_occurrence.Goals as goal
 
 pub next_in-requires : goal.next_in-requires

@@ -1,7 +1,7 @@
 -- `record_falls` meets its contract: the book and the day decide, then the record's number.
 use Rattle.std.proofs.Common.{ap, sym, ◌∙◌}
 use Rattle.pages.specs.Answers.{falls_in}
-use Rattle.pages.specs.Laws.Pages.{validated_ready}
+use Rattle.pages.proofs.Laws.Pages.{validated_ready}
 use Rattle.pages.proofs.next.record_falls.Goals as goal
 
 pub falls_in-requires : goal.falls_in-requires

@@ -2,11 +2,11 @@
 -- what the day found says of the search
 use Rattle.std.proofs.Common.{arith, sym, ◌+◌, ◌∙◌, ◌≡◌}
 use Rattle.prelude.specs.Choice.{if_lt}
-use Rattle.prelude.specs.Laws.Choice.{is_lt, is_ge}
+use Rattle.prelude.proofs.Laws.Choice.{is_lt, is_ge}
 use Rattle.days.specs.Days.{last_day}
-use Rattle.occurrences.specs.Laws.Find.{search-shown}
+use Rattle.occurrences.proofs.Laws.Find.{search-shown}
 use Rattle.pages.specs.Next.{found_on, none_from, next_of}
-use Rattle.pages.specs.Laws.Next.{next-of-first}
+use Rattle.pages.proofs.Laws.Next.{next-of-first}
 use Rattle.pages.proofs.next.search_on.Goals as goal
 
 pub returns-then-day-lt-DAYS : goal.returns-then-day-lt-DAYS

@@ -1,6 +1,6 @@
 -- `page_codes` meets its contract: collected in the book's order, then ordered, by `page_codes`.
 use Rattle.std.proofs.Common.{ap, arith, sym, ◌∙◌}
-use Rattle.pages.specs.Laws.Codes.{page_codes, ordered-front, ordered-behind}
+use Rattle.pages.proofs.Laws.Codes.{page_codes, ordered-front, ordered-behind}
 use Rattle.sorting.specs.Codes.{minute_in}
 use Rattle.sorting.specs.Order.{sort}
 use Rattle.pages.proofs.ordering.page_codes.Goals as goal

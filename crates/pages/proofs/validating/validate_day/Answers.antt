@@ -1,6 +1,6 @@
 -- `validate_day` meets its contract: the day layer decides, by `validated-facts`.
 use Rattle.std.proofs.Common.{ap, sym, ◌∙◌}
-use Rattle.pages.specs.Laws.Pages.{with_facts, validated-facts}
+use Rattle.pages.proofs.Laws.Pages.{with_facts, validated-facts}
 use Rattle.pages.proofs.validating.validate_day.Goals as goal
 
 pub returns-in-Facts : goal.returns-in-Facts

@@ -1,5 +1,5 @@
 -- `bit_of` meets its contract: each return by its test.
-use Rattle.prelude.specs.Laws.Choice.{picks}
+use Rattle.prelude.proofs.Laws.Choice.{picks}
 use Rattle.prelude.specs.Bytes.{bit}
 use Rattle.prelude.proofs.numbers.bit_of.Goals as goal
 

@@ -1,5 +1,5 @@
 -- `is_same_wide` meets its contract: each return by its test.
-use Rattle.prelude.specs.Laws.Choice.{picks}
+use Rattle.prelude.proofs.Laws.Choice.{picks}
 use Rattle.prelude.proofs.numbers.is_same_wide.Goals as goal
 
 pub returns-then-a-b : goal.returns-then-a-b

@@ -1,6 +1,6 @@
 -- `page_length` meets its contract: the book and the day decide, then the page is measured.
 use Rattle.std.proofs.Common.{ap, sym, ◌∙◌}
-use Rattle.pages.specs.Laws.Pages.{validated_ready}
+use Rattle.pages.proofs.Laws.Pages.{validated_ready}
 use Rattle.prelude.specs.declared.answers.CountAnswer.{CountAnswer}
 use Rattle.printing.specs.Answers.{page_length_in}
 use Rattle.printing.proofs.calls.page_length.Goals as goal

@@ -1,7 +1,7 @@
 -- `print_codes` meets its contract: the room decides both the answer and the buffer.
 use Rattle.std.proofs.Common.{ap, arith, false, length, refl, sym, true, true≢false, zero-add, ◌<◌, ◌∙◌, ◌≤◌}
 use mathlib.Core.Bool.{false≢true}
-use Rattle.prelude.specs.Laws.Choice.{lt_yes, lt_no, lt_take, lt_skip}
+use Rattle.prelude.proofs.Laws.Choice.{lt_yes, lt_no, lt_take, lt_skip}
 use Rattle.prelude.specs.declared.answers.CountAnswer.{CountAnswer}
 use Rattle.printing.specs.Coded.{coded_text}
 use Rattle.printing.proofs.calls.print_codes.Goals as goal

@@ -1,6 +1,6 @@
 -- `print_in` meets its contract: either working space has room for all records.
 use Rattle.std.proofs.Common.{arith}
-use Rattle.pages.specs.Laws.Pages.{ready_most}
+use Rattle.pages.proofs.Laws.Pages.{ready_most}
 use Rattle.printing.proofs.calls.print_in.Goals as goal
 
 pub print_with-requires-2 : goal.print_with-requires-2

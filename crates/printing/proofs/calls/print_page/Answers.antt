@@ -1,6 +1,6 @@
 -- `print_page` meets its contract: the book and the day decide, then the room.
 use Rattle.std.proofs.Common.{ap, sym, ◌∙◌}
-use Rattle.pages.specs.Laws.Pages.{validated_ready}
+use Rattle.pages.proofs.Laws.Pages.{validated_ready}
 use Rattle.printing.specs.Answers.{print_in, print_leaves}
 use Rattle.printing.proofs.calls.print_page.Goals as goal
 

@@ -2,8 +2,8 @@
 use Rattle.std.proofs.Common.{take, ◌≡◌}
 use Rattle.printing.specs.Printed.{page_text}
 use Rattle.printing.specs.Coded.{coded_text}
-use Rattle.printing.specs.Laws.Printed.{page_of-codes, page_codes_of}
-use Rattle.printing.specs.Laws.Sizes.{page_most}
+use Rattle.printing.proofs.Laws.Printed.{page_of-codes, page_codes_of}
+use Rattle.printing.proofs.Laws.Sizes.{page_most}
 use Rattle.printing.specs.Answers.{print_in, print_leaves}
 use Rattle.pages.specs.Pages.{falls_on}
 use Rattle.printing.proofs.calls.print_with.Goals as goal

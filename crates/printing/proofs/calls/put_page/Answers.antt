@@ -1,10 +1,10 @@
 -- `put_page` meets its contract: the head, and the lines of the codes.
 -- before the head
 use Rattle.std.proofs.Common.{length, ◌++◌}
-use Rattle.prelude.specs.Laws.Grown.{Grown, grown_start, grown-space, grown-last-fits, grown-more, grown-rest-equal, grown-last}
+use Rattle.prelude.proofs.Laws.Grown.{Grown, grown_start, grown-space, grown-last-fits, grown-more, grown-rest-equal, grown-last}
 use Rattle.printing.specs.Printed.{head_line, page_lines}
 use Rattle.printing.specs.Coded.{coded_lines, coded_text}
-use Rattle.printing.specs.Laws.Printed.{coded-parts}
+use Rattle.printing.proofs.Laws.Printed.{coded-parts}
 use Rattle.printing.proofs.calls.put_page.Goals as goal
 
 pub put_head-at-requires : goal.put_head-at-requires

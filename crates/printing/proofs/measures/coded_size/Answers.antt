@@ -3,7 +3,7 @@
 use Rattle.std.proofs.Common.{arith, length, ◌+◌, ◌≡◌, ◌≤◌}
 use Rattle.printing.specs.Printed.{page_lines}
 use Rattle.printing.specs.Coded.{coded_lines, coded_text}
-use Rattle.printing.specs.Laws.Printed.{length-coded}
+use Rattle.printing.proofs.Laws.Printed.{length-coded}
 use Rattle.printing.proofs.measures.coded_size.Goals as goal
 
 pub overflow_add-result : goal.overflow_add-result

@@ -1,6 +1,6 @@
 -- `exceeds` meets its contract: by the bound of all pages, or by the page's own length.
 use Rattle.std.proofs.Common.{arith, refl}
-use Rattle.prelude.specs.Laws.Choice.{lt_yes, lt_no}
+use Rattle.prelude.proofs.Laws.Choice.{lt_yes, lt_no}
 use Rattle.printing.proofs.measures.exceeds.Goals as goal
 
 pub returns-then-room-ge-MOST_PAGE_BYTES : goal.returns-then-room-ge-MOST_PAGE_BYTES

@@ -2,7 +2,7 @@
 use Rattle.std.proofs.Common.{ap, arith, drop, length, ◌+◌, ◌-◌, ◌≡◌}
 use Rattle.printing.specs.Printed.{page_lines}
 use Rattle.printing.specs.Coded.{coded_lines}
-use Rattle.printing.specs.Laws.Printed.{lines-on, lines_end}
+use Rattle.printing.proofs.Laws.Printed.{lines-on, lines_end}
 use Rattle.printing.proofs.measures.lines_size.Goals as goal
 
 pub overflow_add-bytes : goal.overflow_add-bytes

@@ -1,14 +1,14 @@
 -- `measure` meets its contract: so much is counted, and so much the records ahead add that fall on the day.
 use Rattle.std.proofs.Common.{List, add-one, ap, arith, length, suc, sym, zero-add, ◌+◌, ◌-◌, ◌∙◌, ◌∷◌, ◌≡◌, ◌≤◌}
 use Rattle.sorting.specs.Keep.{keep}
-use Rattle.book.specs.Laws.Books.{cursor_first, cursor-ahead}
+use Rattle.book.proofs.Laws.Books.{cursor_first, cursor-ahead}
 use Rattle.pages.specs.Pages.{Numbered, numbered, falls_on}
-use Rattle.pages.specs.Laws.Pages.{numbered_at, numbered_first, Turn, numbered_cursor, keep-numbered-yes, keep-numbered-no, keep-numbered_end, length_page}
+use Rattle.pages.proofs.Laws.Pages.{numbered_at, numbered_first, Turn, numbered_cursor, keep-numbered-yes, keep-numbered-no, keep-numbered_end, length_page}
 use Rattle.pages.specs.Invariants.{record_at}
 use Rattle.sorting.specs.Totals.{total}
-use Rattle.sorting.specs.Laws.Totals.{total-nil, total-cons}
-use Rattle.printing.specs.Laws.Printed.{line_size, line_size_lem}
-use Rattle.printing.specs.Laws.Sizes.{page_bytes, book-most}
+use Rattle.sorting.proofs.Laws.Totals.{total-nil, total-cons}
+use Rattle.printing.proofs.Laws.Printed.{line_size, line_size_lem}
+use Rattle.printing.proofs.Laws.Sizes.{page_bytes, book-most}
 use Rattle.printing.proofs.measures.measure.Goals as goal
 
 pub loop-n-init : goal.loop-n-init

@@ -1,11 +1,11 @@
 -- `measure` meets its contract: so much is counted, and so much the records ahead add that fall on the day.
 use Rattle.std.proofs.Common.{length, ◌+◌, ◌-◌, ◌≡◌, ◌≤◌}
 use Rattle.sorting.specs.Keep.{keep}
-use Rattle.book.specs.Laws.Books.{Cursor}
+use Rattle.book.proofs.Laws.Books.{Cursor}
 use Rattle.pages.specs.Pages.{numbered, falls_on}
-use Rattle.pages.specs.Laws.Pages.{numbered_at}
+use Rattle.pages.proofs.Laws.Pages.{numbered_at}
 use Rattle.sorting.specs.Totals.{total}
-use Rattle.printing.specs.Laws.Printed.{line_size}
+use Rattle.printing.proofs.Laws.Printed.{line_size}
 use Rattle.printing.proofs.measures.measure.Given as goal
 
 abbrev pub invariant-loop-n : goal.invariant-loop-n

@@ -4,7 +4,7 @@ use Rattle.std.proofs.Common.{ap, arith, length, ℕ, ◌+◌, ◌∙◌, ◌≡
 use Rattle.digits.specs.Digits.{decimal}
 use Rattle.pages.specs.Pages.{page_on, falls_on}
 use Rattle.printing.specs.Printed.{page_text}
-use Rattle.printing.specs.Laws.Sizes.{page_size, page_most}
+use Rattle.printing.proofs.Laws.Sizes.{page_size, page_most}
 use Rattle.printing.proofs.measures.page_size.Goals as goal
 
 pub overflow_add-result : goal.overflow_add-result

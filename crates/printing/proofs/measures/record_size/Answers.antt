@@ -6,7 +6,7 @@ use Rattle.records.specs.Fields.{record_of, text_length}
 use Rattle.book.specs.Walk.{type_at, body_at}
 use Rattle.book.specs.Books.{entry_at}
 use Rattle.book.specs.Invariants.{RecordAt}
-use Rattle.book.specs.Laws.Entries.{Inside, entry_inside}
+use Rattle.book.proofs.Laws.Entries.{Inside, entry_inside}
 use Rattle.falls.specs.Moved.{day_missing}
 use Rattle.printing.proofs.measures.record_size.Goals as goal
 

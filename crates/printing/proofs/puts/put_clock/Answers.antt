@@ -1,7 +1,7 @@
 -- `put_clock` meets its contract: hour, colon and minute, one behind the other.
 -- what is left to write
 use Rattle.std.proofs.Common.{[], ◌%◌, ◌++◌, ◌/◌, ◌∷◌}
-use Rattle.prelude.specs.Laws.Grown.{Grown, grown_start, grown-space, grown-last-fits, grown-more, grown-last}
+use Rattle.prelude.proofs.Laws.Grown.{Grown, grown_start, grown-space, grown-last-fits, grown-more, grown-last}
 use Rattle.digits.specs.Digits.{two}
 use Rattle.printing.specs.Printed.{colon, clock}
 use Rattle.printing.proofs.puts.put_clock.Goals as goal

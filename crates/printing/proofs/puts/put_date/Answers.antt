@@ -1,7 +1,7 @@
 -- `put_date` meets its contract: year, month and day with dashes between them.
 -- what is left to write
 use Rattle.std.proofs.Common.{[], ◌++◌, ◌∷◌}
-use Rattle.prelude.specs.Laws.Grown.{Grown, grown_start, grown-space, grown-last-fits, grown-more, grown-last}
+use Rattle.prelude.proofs.Laws.Grown.{Grown, grown_start, grown-space, grown-last-fits, grown-more, grown-last}
 use Rattle.digits.specs.Digits.{two, four}
 use Rattle.printing.specs.Printed.{dash, date_text}
 use Rattle.printing.proofs.puts.put_date.Goals as goal

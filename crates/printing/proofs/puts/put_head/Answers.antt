@@ -1,7 +1,7 @@
 -- `put_head` meets its contract: date, weekday and number of lines, each behind the one before.
 -- what is left to write
 use Rattle.std.proofs.Common.{[], ◌++◌, ◌∷◌}
-use Rattle.prelude.specs.Laws.Grown.{Grown, grown_start, grown-space, grown-last-fits, grown-more, grown-last}
+use Rattle.prelude.proofs.Laws.Grown.{Grown, grown_start, grown-space, grown-last-fits, grown-more, grown-last}
 use Rattle.digits.specs.Digits.{decimal}
 use Rattle.printing.specs.Printed.{newline, space as blank, date_text, weekday_name, head_line}
 use Rattle.printing.proofs.puts.put_head.Goals as goal

@@ -2,7 +2,7 @@
 -- what is left to write
 use Rattle.std.proofs.Common.{[], ◌++◌, ◌∷◌}
 use Rattle.prelude.specs.Bytes.{stretch_bytes}
-use Rattle.prelude.specs.Laws.Grown.{Grown, grown_start, grown-space, grown-last-fits, grown-more, grown-last}
+use Rattle.prelude.proofs.Laws.Grown.{Grown, grown_start, grown-space, grown-last-fits, grown-more, grown-last}
 use Rattle.printing.specs.Printed.{newline, space as blank, dash, clock, moved_mark, page_line}
 use Rattle.printing.proofs.puts.put_line.Goals as goal
 

@@ -1,10 +1,10 @@
 -- `put_lines` meets its contract: what is left to write are the lines of the codes ahead.
 use Rattle.std.proofs.Common.{ap, arith, drop, sym, ◌++◌, ◌+◌, ◌-◌, ◌∙◌}
-use Rattle.prelude.specs.Laws.Grown.{Grown, grown-space, grown-more, grown-rest-equal, grown-end}
+use Rattle.prelude.proofs.Laws.Grown.{Grown, grown-space, grown-more, grown-rest-equal, grown-end}
 use Rattle.pages.specs.declared.types.Line.{Line}
 use Rattle.printing.specs.Printed.{page_line, page_lines}
 use Rattle.printing.specs.Coded.{coded_lines}
-use Rattle.printing.specs.Laws.Printed.{lines_next, lines_end}
+use Rattle.printing.proofs.Laws.Printed.{lines_next, lines_end}
 use Rattle.printing.proofs.puts.put_lines.Goals as goal
 
 pub put_line-pos-requires : goal.put_line-pos-requires

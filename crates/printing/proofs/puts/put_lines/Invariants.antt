@@ -1,6 +1,6 @@
 -- `put_lines` meets its contract: what is left to write are the lines of the codes ahead.
 use Rattle.std.proofs.Common.{drop, length, ◌-◌}
-use Rattle.prelude.specs.Laws.Grown.{Grown}
+use Rattle.prelude.proofs.Laws.Grown.{Grown}
 use Rattle.printing.specs.Printed.{page_lines}
 use Rattle.printing.specs.Coded.{coded_lines}
 use Rattle.printing.proofs.puts.put_lines.Given as goal

@@ -1,7 +1,7 @@
 -- `put_mark` meets its contract: the asterisk, or nothing.
 use Rattle.std.proofs.Common.{Bool, [], ap, arith, false, length, sym, true, ◌∷◌, ◌≡◌}
-use Rattle.prelude.specs.Laws.Choice.{is_true, is_false}
-use Rattle.prelude.specs.Laws.Splice.{splice-nil}
+use Rattle.prelude.proofs.Laws.Choice.{is_true, is_false}
+use Rattle.prelude.proofs.Laws.Splice.{splice-nil}
 use Rattle.printing.specs.Printed.{asterisk, moved_mark}
 use Rattle.printing.proofs.puts.put_mark.Goals as goal
 

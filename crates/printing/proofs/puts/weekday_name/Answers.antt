@@ -1,6 +1,6 @@
 -- `weekday_name` meets its contract: one by one.
 use Rattle.printing.specs.Printed.{weekday_name}
-use Rattle.prelude.specs.Laws.Choice.{picks}
+use Rattle.prelude.proofs.Laws.Choice.{picks}
 use Rattle.printing.proofs.puts.weekday_name.Goals as goal
 
 pub returns-then-w-eq1 : goal.returns-then-w-eq1

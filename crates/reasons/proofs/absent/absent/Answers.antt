@@ -1,6 +1,6 @@
 -- `absent` meets its contract: the type picks the tests of its kind, by `absent-type`.
-use Rattle.prelude.specs.Laws.Choice.{picks}
-use Rattle.reasons.specs.Laws.Kinds.{absent-type}
+use Rattle.prelude.proofs.Laws.Choice.{picks}
+use Rattle.reasons.proofs.Laws.Kinds.{absent-type}
 use Rattle.reasons.proofs.absent.absent.Goals as goal
 
 pub returns-then-t-eq1 : goal.returns-then-t-eq1

@@ -1,5 +1,5 @@
 -- `day_reason` meets its contract: each return by the tests before it.
-use Rattle.prelude.specs.Laws.Choice.{picks}
+use Rattle.prelude.proofs.Laws.Choice.{picks}
 use Rattle.reasons.specs.Kinds.{day_reason}
 use Rattle.reasons.proofs.absent.day_reason.Goals as goal
 

@@ -1,5 +1,5 @@
 -- `ends_before` meets its contract: each return by the test before it.
-use Rattle.prelude.specs.Laws.Choice.{picks}
+use Rattle.prelude.proofs.Laws.Choice.{picks}
 use Rattle.reasons.specs.Kinds.{ends_before}
 use Rattle.reasons.proofs.absent.ends_before.Goals as goal
 

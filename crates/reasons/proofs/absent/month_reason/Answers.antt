@@ -1,5 +1,5 @@
 -- `month_reason` meets its contract: each return by the test before it.
-use Rattle.prelude.specs.Laws.Choice.{picks}
+use Rattle.prelude.proofs.Laws.Choice.{picks}
 use Rattle.reasons.specs.Kinds.{month_reason}
 use Rattle.reasons.proofs.absent.month_reason.Goals as goal
 

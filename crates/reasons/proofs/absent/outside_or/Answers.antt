@@ -1,5 +1,5 @@
 -- `outside_or` meets its contract: each return by the tests before it.
-use Rattle.prelude.specs.Laws.Choice.{picks}
+use Rattle.prelude.proofs.Laws.Choice.{picks}
 use Rattle.reasons.specs.Kinds.{outside_or}
 use Rattle.reasons.proofs.absent.outside_or.Goals as goal
 

@@ -1,6 +1,6 @@
 -- `reason_on` meets its contract: what falls on the day says its reason, else `absent` does.
 use Rattle.std.proofs.Common.{sym, ◌∙◌}
-use Rattle.reasons.specs.Laws.Kinds.{reason-own, reason-moved, reason-absent}
+use Rattle.reasons.proofs.Laws.Kinds.{reason-own, reason-moved, reason-absent}
 use Rattle.reasons.proofs.calls.reason_on.Goals as goal
 
 pub returns-in-No : goal.returns-in-No

@@ -1,8 +1,8 @@
 -- `why` meets its contract: the book and the day decide, then the record's number; what the answer promises is `why_promised`.
 use Rattle.std.proofs.Common.{ap, sym, ◌∙◌}
-use Rattle.pages.specs.Laws.Pages.{validated_ready}
+use Rattle.pages.proofs.Laws.Pages.{validated_ready}
 use Rattle.reasons.specs.Answers.{why_in}
-use Rattle.reasons.specs.Laws.Calls.{why_promised}
+use Rattle.reasons.proofs.Laws.Calls.{why_promised}
 use Rattle.reasons.proofs.calls.why.Goals as goal
 
 pub why_in-requires : goal.why_in-requires

@@ -1,8 +1,8 @@
 -- `why_in` meets its contract: the record of that number, by `nth-record`, or none.
 use Rattle.std.proofs.Common.{ap, arith, sym, ℕ, ◌∙◌}
 use Rattle.book.specs.Books.{entry_at}
-use Rattle.book.specs.Laws.Entries.{record_there}
-use Rattle.pages.specs.Laws.Nth.{nth-record, nth-no-record}
+use Rattle.book.proofs.Laws.Entries.{record_there}
+use Rattle.pages.proofs.Laws.Nth.{nth-record, nth-no-record}
 use Rattle.reasons.specs.Answers.{why_in}
 use Rattle.reasons.specs.Reasons.{reason_of}
 use Rattle.reasons.specs.declared.types.ReasonAnswer.{ReasonAnswer}

@@ -1,6 +1,6 @@
 -- `fields_ok` meets its contract: each return is the choice that its tests make.
 use Rattle.std.proofs.Common.{ap, ◌∙◌}
-use Rattle.prelude.specs.Laws.Choice.{picks}
+use Rattle.prelude.proofs.Laws.Choice.{picks}
 use Rattle.records.specs.Ranges.{dated_ok, weekly_ok, monthly_by_date_ok, monthly_by_position_ok, yearly_ok, to_do_ok}
 use Rattle.records.specs.Bodies.{fields_ok}
 use Rattle.records.proofs.bodies.fields_ok.Goals as goal

@@ -1,10 +1,10 @@
 -- `judge_body` meets its contract: the lengths one by one, then fields, then texts.
 use Rattle.std.proofs.Common.{ap, arith, get_or, refl, true, ℕ, ◌-◌, ◌∙◌, ◌≡◌}
-use Rattle.prelude.specs.Laws.Choice.{b_yes, b_no, if_by_true, if_by_false}
+use Rattle.prelude.proofs.Laws.Choice.{b_yes, b_no, if_by_true, if_by_false}
 use Rattle.prelude.specs.Bytes.{word}
 use Rattle.records.specs.Fields.{text_length, note_length}
 use Rattle.records.specs.Bodies.{lengths_ok, texts_ok, judge_body}
-use Rattle.records.specs.Laws.Judged.{fixed_range, lengths_over, lengths_text, lengths_fit_lem}
+use Rattle.records.proofs.Laws.Judged.{fixed_range, lengths_over, lengths_text, lengths_fit_lem}
 use Rattle.records.proofs.bodies.judge_body.Goals as goal
 
 pub returns-then-p-fixed : goal.returns-then-p-fixed

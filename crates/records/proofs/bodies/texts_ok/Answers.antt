@@ -1,7 +1,7 @@
 -- `texts_ok` meets its contract: the two rules, on the stretches where text and note lie.
 use Rattle.std.proofs.Common.{refl}
 use native.Mathlib.Nat.{add-sub_cancel_left}
-use Rattle.prelude.specs.Laws.Choice.{if_by_true, if_by_false}
+use Rattle.prelude.proofs.Laws.Choice.{if_by_true, if_by_false}
 use Rattle.records.proofs.bodies.texts_ok.Goals as goal
 
 pub returns-then-no_zero : goal.returns-then-no_zero

@@ -1,5 +1,5 @@
 -- `check_off_of` meets its contract: each return is the choice that its tests make.
-use Rattle.prelude.specs.Laws.Choice.{picks}
+use Rattle.prelude.proofs.Laws.Choice.{picks}
 use Rattle.records.specs.Fields.{check_off_of}
 use Rattle.records.proofs.fields.check_off_of.Goals as goal
 

@@ -1,5 +1,5 @@
 -- `record_of` meets its contract: each return is the choice that its tests make.
-use Rattle.prelude.specs.Laws.Choice.{picks}
+use Rattle.prelude.proofs.Laws.Choice.{picks}
 use Rattle.records.specs.Fields.{record_of}
 use Rattle.records.proofs.fields.record_of.Goals as goal
 

@@ -1,6 +1,6 @@
 -- `text_length` meets its contract: it is what its callees give.
 use Rattle.std.proofs.Common.{arith}
-use Rattle.records.specs.Laws.Judged.{fixed_range}
+use Rattle.records.proofs.Laws.Judged.{fixed_range}
 use Rattle.records.proofs.fields.text_length.Goals as goal
 
 pub overflow_sub-fixed : goal.overflow_sub-fixed

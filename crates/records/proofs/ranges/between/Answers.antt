@@ -1,5 +1,5 @@
 -- `between` meets its contract: each return is the choice that its tests make.
-use Rattle.prelude.specs.Laws.Choice.{picks}
+use Rattle.prelude.proofs.Laws.Choice.{picks}
 use Rattle.records.specs.Ranges.{between}
 use Rattle.records.proofs.ranges.between.Goals as goal
 

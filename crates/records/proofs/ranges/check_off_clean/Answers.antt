@@ -1,5 +1,5 @@
 -- `check_off_clean` meets its contract: each return is the choice that its tests make.
-use Rattle.prelude.specs.Laws.Choice.{picks, if_by_false}
+use Rattle.prelude.proofs.Laws.Choice.{picks, if_by_false}
 use Rattle.records.specs.Ranges.{check_off_clean}
 use Rattle.records.proofs.ranges.check_off_clean.Goals as goal
 

@@ -1,5 +1,5 @@
 -- `monthly_by_date_ok` meets its contract: each return is the choice that its tests make.
-use Rattle.prelude.specs.Laws.Choice.{picks}
+use Rattle.prelude.proofs.Laws.Choice.{picks}
 use Rattle.records.specs.Ranges.{monthly_by_date_ok}
 use Rattle.records.proofs.ranges.monthly_by_date_ok.Goals as goal
 

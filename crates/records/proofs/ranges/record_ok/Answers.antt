@@ -1,5 +1,5 @@
 -- `record_ok` meets its contract: each arm is a clause of its definition.
-use Rattle.records.specs.Laws.Kinds.{kinds}
+use Rattle.records.proofs.Laws.Kinds.{kinds}
 use Rattle.records.proofs.ranges.record_ok.Goals as goal
 
 pub returns-in-Dated : goal.returns-in-Dated

@@ -1,5 +1,5 @@
 -- `three_zeros` meets its contract: each return is the choice that its tests make.
-use Rattle.prelude.specs.Laws.Choice.{picks}
+use Rattle.prelude.proofs.Laws.Choice.{picks}
 use Rattle.records.specs.Ranges.{three_zeros}
 use Rattle.records.proofs.ranges.three_zeros.Goals as goal
 

@@ -1,5 +1,5 @@
 -- `times_ok` meets its contract: each return is the choice that its tests make.
-use Rattle.prelude.specs.Laws.Choice.{picks}
+use Rattle.prelude.proofs.Laws.Choice.{picks}
 use Rattle.records.specs.Ranges.{times_ok}
 use Rattle.records.proofs.ranges.times_ok.Goals as goal
 

@@ -1,5 +1,5 @@
 -- `to_do_ok` meets its contract: each return is the choice that its tests make.
-use Rattle.prelude.specs.Laws.Choice.{picks}
+use Rattle.prelude.proofs.Laws.Choice.{picks}
 use Rattle.records.specs.Ranges.{to_do_ok}
 use Rattle.records.proofs.ranges.to_do_ok.Goals as goal
 

@@ -1,6 +1,6 @@
 -- `yearly_ok` meets its contract: each return is the choice that its tests make.
 use Rattle.std.proofs.Common.{refl}
-use Rattle.prelude.specs.Laws.Choice.{if_by_true, if_by_false}
+use Rattle.prelude.proofs.Laws.Choice.{if_by_true, if_by_false}
 use Rattle.records.specs.Ranges.{yearly_ok}
 use Rattle.records.proofs.ranges.yearly_ok.Goals as goal
 

@@ -1,6 +1,6 @@
 -- `first_from` meets its contract: the numbers before low are below the one asked for, those from high on are not.
 use Rattle.std.proofs.Common.{◌-◌}
-use Rattle.rising.specs.Laws.Rising.{Halved}
+use Rattle.rising.proofs.Laws.Rising.{Halved}
 use Rattle.rising.proofs.searching.first_from.Given as goal
 
 abbrev pub invariant-loop-low : goal.invariant-loop-low

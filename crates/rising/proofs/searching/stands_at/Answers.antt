@@ -1,7 +1,7 @@
 -- `stands_at` meets its contract: a number stands at its place or nowhere.
 use Rattle.std.proofs.Common.{arith, sym, ◌∙◌}
-use Rattle.prelude.specs.Laws.Choice.{is_lt, is_ge}
-use Rattle.rising.specs.Laws.Rising.{split-contains}
+use Rattle.prelude.proofs.Laws.Choice.{is_lt, is_ge}
+use Rattle.rising.proofs.Laws.Rising.{split-contains}
 use Rattle.rising.proofs.searching.stands_at.Goals as goal
 
 pub returns-then-place-list : goal.returns-then-place-list

@@ -2,7 +2,7 @@
 use Rattle.std.proofs.Common.{arith, le-leb, length, sym, ◌+◌, ◌-◌, ◌≡◌}
 use borrow.Author.Tests.{lt-leb}
 use Rattle.texts.specs.Notes.{lines_of, most_lines}
-use Rattle.texts.specs.Laws.Rules.{count_zero, count_other, count_last}
+use Rattle.texts.proofs.Laws.Rules.{count_zero, count_other, count_last}
 use Rattle.texts.proofs.rules.few_lines.Goals as goal
 use Rattle.texts.proofs.rules.few_lines.Goals.{then-s-k-eq0, else-s-k-eq0}
 

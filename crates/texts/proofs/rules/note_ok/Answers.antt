@@ -1,6 +1,6 @@
 -- `note_ok` meets its contract: a short note and one that is too long by their laws, any other by its lines.
 use Rattle.std.proofs.Common.{arith, rules, sym}
-use Rattle.texts.specs.Laws.Rules.{note_short, note_long}
+use Rattle.texts.proofs.Laws.Rules.{note_short, note_long}
 use Rattle.texts.proofs.rules.note_ok.Goals as goal
 
 pub returns-then-s-le-MOST_LINES : goal.returns-then-s-le-MOST_LINES

@@ -2,7 +2,7 @@
 -- the stretch has its length
 use Rattle.std.proofs.Common.{arith, drop, length, length-drop, length-take-le, rules, sym, ◌≡◌}
 use Rattle.prelude.specs.Bytes.{part}
-use Rattle.texts.specs.Laws.Rules.{note_short, note_long}
+use Rattle.texts.proofs.Laws.Rules.{note_short, note_long}
 use Rattle.texts.proofs.rules.note_ok_at.Goals as goal
 
 pub returns-then-n-le-MOST_LINES : goal.returns-then-n-le-MOST_LINES

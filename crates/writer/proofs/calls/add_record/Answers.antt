@@ -1,11 +1,11 @@
 -- `add_record` meets its contract: the refusal's number decides both the answer and the buffer.
 use Rattle.std.proofs.Common.{ap, arith, false, length, refl, sym, ℕ, ◌∙◌, ◌≡◌}
-use Rattle.prelude.specs.Laws.Choice.{eq_yes, eq_no}
+use Rattle.prelude.proofs.Laws.Choice.{eq_yes, eq_no}
 use Rattle.prelude.specs.Refusals.{refusal}
-use Rattle.records.specs.Laws.Bodies.{note_short}
+use Rattle.records.proofs.Laws.Bodies.{note_short}
 use Rattle.writer.specs.Writing.{gives_where, leaves_where, add_refusal, add_gives, add_leaves}
 use Rattle.writer.specs.Runs.{Item}
-use Rattle.writer.specs.Laws.Calls.{add_facts}
+use Rattle.writer.proofs.Laws.Calls.{add_facts}
 use Rattle.writer.specs.declared.types.WriteAnswer.{WriteAnswer}
 use Rattle.writer.proofs.calls.add_record.Goals as goal
 

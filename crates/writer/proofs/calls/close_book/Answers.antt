@@ -1,9 +1,9 @@
 -- `close_book` meets its contract: the refusal's number decides both the answer and the buffer.
 use Rattle.std.proofs.Common.{ap, arith, length, refl, sym, true, ℕ, ◌∙◌, ◌≡◌}
-use Rattle.prelude.specs.Laws.Choice.{eq_yes, eq_no}
+use Rattle.prelude.proofs.Laws.Choice.{eq_yes, eq_no}
 use Rattle.prelude.specs.Refusals.{refusal}
 use Rattle.writer.specs.Writing.{gives_where, leaves_where, close_refusal, close_gives, close_leaves}
-use Rattle.writer.specs.Laws.Calls.{close_facts}
+use Rattle.writer.proofs.Laws.Calls.{close_facts}
 use Rattle.writer.specs.declared.types.WriteAnswer.{WriteAnswer}
 use Rattle.writer.proofs.calls.close_book.Goals as goal
 

@@ -1,10 +1,10 @@
 -- `open_book` meets its contract: the refusal's number decides both the answer and the buffer.
 use Rattle.std.proofs.Common.{List, ap, arith, false, length, refl, sym, ℕ, ◌∙◌, ◌≡◌}
-use Rattle.prelude.specs.Laws.Choice.{eq_yes, eq_no}
+use Rattle.prelude.proofs.Laws.Choice.{eq_yes, eq_no}
 use Rattle.prelude.specs.Refusals.{refusal}
 use Rattle.prelude.specs.Splice.{splice}
 use Rattle.writer.specs.Writing.{gives_where, leaves_where, open_refusal, open_gives, open_leaves}
-use Rattle.writer.specs.Laws.Calls.{length_open, open_facts, settings_lead}
+use Rattle.writer.proofs.Laws.Calls.{length_open, open_facts, settings_lead}
 use Rattle.writer.specs.declared.types.WriteAnswer.{WriteAnswer}
 use Rattle.writer.proofs.calls.open_book.Goals as goal
 

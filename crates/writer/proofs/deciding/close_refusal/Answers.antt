@@ -1,6 +1,6 @@
 -- `close_refusal` meets its contract: each return is the choice that its tests make.
 use Rattle.std.proofs.Common.{add-zero, refl}
-use Rattle.prelude.specs.Laws.Choice.{if_by_true, if_by_false}
+use Rattle.prelude.proofs.Laws.Choice.{if_by_true, if_by_false}
 use Rattle.writer.specs.Writing.{close_refusal}
 use Rattle.writer.proofs.deciding.close_refusal.Goals as goal
 

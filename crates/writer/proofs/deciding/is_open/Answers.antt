@@ -1,5 +1,5 @@
 -- `is_open` meets its contract: each return is the choice that its tests make.
-use Rattle.prelude.specs.Laws.Choice.{picks}
+use Rattle.prelude.proofs.Laws.Choice.{picks}
 use Rattle.writer.specs.Writing.{state_open}
 use Rattle.writer.proofs.deciding.is_open.Goals as goal
 

@@ -1,5 +1,5 @@
 -- `longest_in` meets its contract: each return is the choice that its test makes.
-use Rattle.prelude.specs.Laws.Choice.{picks}
+use Rattle.prelude.proofs.Laws.Choice.{picks}
 use Rattle.writer.proofs.deciding.longest_in.Goals as goal
 
 pub returns-then-size-lt-MOST_BOOK_BYTES : goal.returns-then-size-lt-MOST_BOOK_BYTES

@@ -1,5 +1,5 @@
 -- `open_refusal` meets its contract: each return is the choice that its tests make.
-use Rattle.prelude.specs.Laws.Choice.{picks}
+use Rattle.prelude.proofs.Laws.Choice.{picks}
 use Rattle.writer.specs.Writing.{open_refusal}
 use Rattle.writer.proofs.deciding.open_refusal.Goals as goal
 

@@ -1,7 +1,7 @@
 -- `room_refusal` meets its contract: nothing wraps, since more than 65,535 bytes used is refused before the sum; then both tests are made at once.
 use Rattle.std.proofs.Common.{arith, refl, ℕ, ◌+◌, ◌<◌, ◌≡◌, ◌≤◌}
 use Rattle.prelude.specs.Choice.{if_lt}
-use Rattle.prelude.specs.Laws.Choice.{lt_elim, lt_yes, lt_no}
+use Rattle.prelude.proofs.Laws.Choice.{lt_elim, lt_yes, lt_no}
 use Rattle.prelude.specs.Refusals.{no_room}
 use Rattle.writer.specs.Writing.{room_refusal}
 use Rattle.book.specs.Books.{most_book_bytes}

@@ -1,9 +1,9 @@
 -- `texts_refusal` meets its contract: each return is the choice that its tests make.
 use Rattle.std.proofs.Common.{ap, arith, length, refl, sym, ℕ, ◌+◌, ◌∙◌, ◌≤◌}
-use Rattle.prelude.specs.Laws.Choice.{if_by_true, if_by_false}
+use Rattle.prelude.proofs.Laws.Choice.{if_by_true, if_by_false}
 use Rattle.records.specs.Encoding.{type_of}
-use Rattle.records.specs.Laws.Judged.{fixed_range}
-use Rattle.records.specs.Laws.Bodies.{note_short, length-encoded}
+use Rattle.records.proofs.Laws.Judged.{fixed_range}
+use Rattle.records.proofs.Laws.Bodies.{note_short, length-encoded}
 use Rattle.writer.specs.Writing.{room_refusal}
 use Rattle.texts.specs.Notes.{most_note}
 use Rattle.writer.proofs.deciding.texts_refusal.Goals as goal

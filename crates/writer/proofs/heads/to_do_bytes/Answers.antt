@@ -2,7 +2,7 @@
 use Rattle.std.proofs.Common.{arith}
 use Rattle.prelude.specs.Bytes.{le16}
 use Rattle.records.specs.Encoding.{date_bytes}
-use Rattle.records.specs.Laws.Bodies.{state_byte}
+use Rattle.records.proofs.Laws.Bodies.{state_byte}
 use Rattle.writer.proofs.heads.to_do_bytes.Goals as goal
 
 pub overflow_add-result : goal.overflow_add-result

@@ -1,6 +1,6 @@
 -- `to_do_head` meets its contract: the check-off decides its bit and its three bytes.
 use Rattle.std.proofs.Common.{◌∙◌}
-use Rattle.writer.specs.Laws.Heads.{to_do_head_not_checked, to_do_head_checked}
+use Rattle.writer.proofs.Laws.Heads.{to_do_head_not_checked, to_do_head_checked}
 use Rattle.writer.proofs.heads.to_do_head.Goals as goal
 
 pub returns-in_default : goal.returns-in_default

@@ -2,9 +2,9 @@
 -- the facts of a kind, from the judge of the record
 use Rattle.std.proofs.Common.{ap, arith, refl, sym, true, ◌∙◌, ◌≡◌}
 use Rattle.records.specs.Ranges.{record_ok}
-use Rattle.records.specs.Laws.Ranges.{Facts, record_facts}
+use Rattle.records.proofs.Laws.Ranges.{Facts, record_facts}
 use Rattle.records.specs.declared.types.Record.{Record}
-use Rattle.writer.specs.Laws.Heads.{dated_fit, repeat_fit, to_do_fit, day_fit, weekly_head, by_date_head, by_position_head, yearly_head, head_room, head_put}
+use Rattle.writer.proofs.Laws.Heads.{dated_fit, repeat_fit, to_do_fit, day_fit, weekly_head, by_date_head, by_position_head, yearly_head, head_room, head_put}
 use Rattle.writer.proofs.puts.put_record.Goals as goal
 
 of : {r k : Record} → r ≡ k → record_ok r ≡ true → Facts k

@@ -1,7 +1,7 @@
 -- `put_three` meets its contract: each copy goes on where the one before it ended.
 -- the room for the three pieces, one by one
 use Rattle.std.proofs.Common.{append_assoc, arith, length, length-append, ◌++◌, ◌+◌, ◌≤◌}
-use Rattle.prelude.specs.Laws.Splice.{splice-then}
+use Rattle.prelude.proofs.Laws.Splice.{splice-then}
 use Rattle.writer.proofs.puts.put_three.Goals as goal
 
 pub returns : goal.returns
