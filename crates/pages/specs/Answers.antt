@@ -14,7 +14,6 @@ use Rattle.falls.specs.Moved.{falling}
 use Rattle.falls.specs.declared.types.ShortMonth.{ShortMonth}
 use Rattle.pages.specs.Pages.{Numbered, numbered, page_of, page_line_of, nth}
 use Rattle.pages.specs.Next.{next_of}
-use Rattle.pages.specs.declared.types.Ready.{Ready}
 use Rattle.pages.specs.declared.types.Validated.{Validated}
 use Rattle.pages.specs.declared.types.FallsAnswer.{FallsAnswer}
 use Rattle.prelude.specs.declared.answers.CountAnswer.{CountAnswer}

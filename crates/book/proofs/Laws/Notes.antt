@@ -1,7 +1,7 @@
 -- Laws of a record's note as a stretch of the file: which it is in an accepted book, and that it lies in the file.
 -- Assumes nothing.
 use Rattle.std.specs.Prelude.{ℕ, ◌+◌, ◌<◌, ◌≤◌, ◌≡◌, refl, List, length, get_or}
-use Rattle.std.proofs.Common.{sym, ap, arith}
+use Rattle.std.proofs.Common.{sym, ap}
 use Rattle.prelude.proofs.Laws.Choice.{is_lt, is_ge, constructors_differ}
 use Rattle.prelude.specs.Refusals.{no_such_number, refusal}
 use Rattle.prelude.specs.declared.refusals.Refusal.{Refusal}

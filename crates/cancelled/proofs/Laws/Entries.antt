@@ -1,13 +1,12 @@
 -- Laws of one entry: when it is bad, and a record's seventeenth by the entry 16 places before it, since in a list that rises up to it a
 -- record's entries stand together.
 -- Assumes nothing.
-use Rattle.std.specs.Prelude.{ℕ, zero, suc, ◌+◌, ◌-◌, ◌<◌, ◌≤◌, ◌≡◌, refl, Bool, List, [], ◌∷◌, ◌++◌, length, get_or, take, drop}
+use Rattle.std.specs.Prelude.{ℕ, suc, ◌+◌, ◌-◌, ◌<◌, ◌≤◌, ◌≡◌, refl, List, [], ◌∷◌, ◌++◌, length, get_or, take, drop}
 use Rattle.std.proofs.Common.{sym, ◌∙◌, ap, arith, take-append-drop, length-drop, get_or-take, get_or-drop, length-take-le}
 use Rattle.std.proofs.Math.Bool.{true, false, true≢false}
 use Rattle.std.proofs.lemmas.Bool.{false≢true}
-use Rattle.prelude.specs.Choice.{if_lt, if_eq, if_b}
-use Rattle.prelude.proofs.Laws.Choice.{is_lt, is_ge, is_eq, is_ne, is_true, is_false, lt_elim, eq_elim, b_elim, lt_take, eq_skip, b_take, bool_cases}
-use Rattle.rising.specs.Rising.{Rising}
+use Rattle.prelude.specs.Choice.{if_lt, if_eq}
+use Rattle.prelude.proofs.Laws.Choice.{is_lt, is_ge, is_eq, is_ne, is_true, is_false, lt_elim, eq_elim, b_elim, lt_take, b_take}
 use Rattle.cancelled.specs.Cancelled.{cancelled_number, rises_at, names_sitting, count_for, most_cancelled, is_beyond, entry_bad}
 
 -- an entry is bad where one of the rules is broken, and not else

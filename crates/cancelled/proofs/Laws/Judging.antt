@@ -3,9 +3,8 @@
 use Rattle.std.specs.Prelude.{ℕ, zero, suc, ◌+◌, ◌-◌, ◌<◌, ◌≤◌, ◌≡◌, refl, false, List, length, get_or}
 use Rattle.std.proofs.Common.{sym, ◌∙◌, ap, arith}
 use Rattle.std.proofs.Math.Bool.{Bool, true, true≢false}
-use Rattle.std.proofs.lemmas.Bool.{false≢true}
-use Rattle.prelude.specs.Choice.{if_lt, if_eq, if_b}
-use Rattle.prelude.proofs.Laws.Choice.{is_lt, is_ge, is_ne, is_true, is_false, lt_elim, eq_elim, b_elim, lt_take, b_take}
+use Rattle.prelude.specs.Choice.{if_lt}
+use Rattle.prelude.proofs.Laws.Choice.{is_lt, is_ge, is_true, is_false, lt_elim, eq_elim, b_elim, lt_take, b_take}
 use Rattle.prelude.specs.Refusals.{bad_cancelled}
 use Rattle.prelude.specs.Verdicts.{refused}
 use Rattle.prelude.proofs.Laws.Verdicts.{unless_bad-true, unless_bad-false}

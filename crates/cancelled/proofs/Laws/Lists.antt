@@ -2,8 +2,7 @@
 -- Assumes nothing.
 use Rattle.std.specs.Prelude.{ℕ, suc, ◌<◌, ◌≡◌, true, false, List, [], length, get_or}
 use Rattle.std.proofs.Math.Path.{refl}
-use Rattle.std.proofs.Common.{sym, ◌∙◌, ap, arith}
-use Rattle.prelude.proofs.Laws.Choice.{constructors_differ}
+use Rattle.std.proofs.Common.{sym, ◌∙◌, arith}
 use Rattle.prelude.specs.Verdicts.{in_turn}
 use Rattle.prelude.proofs.Laws.Verdicts.{unless_bad_fine, in-turn-fine-each}
 use Rattle.prelude.specs.declared.refusals.Refusal.{Refusal}

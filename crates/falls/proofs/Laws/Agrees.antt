@@ -1,7 +1,7 @@
 -- Where that byte does not agree, the record does not fall.
 -- Assumes nothing.
 use Rattle.std.specs.Prelude.{ℕ, ◌≡◌, Bool, true, false, List}
-use Rattle.std.proofs.Common.{◌∙◌, arith}
+use Rattle.std.proofs.Common.{◌∙◌}
 use Rattle.prelude.specs.Choice.{if_eq}
 use Rattle.prelude.proofs.Laws.Choice.{is_eq, is_ne, is_false, eq_elim, constructors_differ}
 use Rattle.days.specs.declared.types.DayFacts.{DayFacts}

@@ -15,10 +15,6 @@ use Rattle.records.specs.Bodies.{fields_ok}
 use Rattle.records.specs.Invariants.{ThreeBytes}
 use Rattle.records.specs.declared.types.Dated.{Dated}
 use Rattle.records.specs.declared.types.Repeat.{Repeat}
-use Rattle.records.specs.declared.types.Weekly.{Weekly}
-use Rattle.records.specs.declared.types.MonthlyByDate.{MonthlyByDate}
-use Rattle.records.specs.declared.types.MonthlyByPosition.{MonthlyByPosition}
-use Rattle.records.specs.declared.types.Yearly.{Yearly}
 use Rattle.records.specs.declared.types.ToDo.{ToDo}
 use Rattle.records.specs.declared.types.Record.{Record}
 

@@ -2,7 +2,7 @@
 -- Assumes nothing.
 use Rattle.std.specs.Prelude.{ℕ, zero, suc, ◌+◌, ◌<◌, ◌≤◌, ◌≡◌, refl, Bool, true, false, List, [], ◌∷◌, length, get_or}
 use Rattle.std.proofs.Common.{sym, ◌∙◌, arith}
-use Rattle.prelude.specs.Choice.{if_lt, if_eq, if_b}
+use Rattle.prelude.specs.Choice.{if_lt, if_eq}
 use Rattle.prelude.proofs.Laws.Choice.{is_lt, is_ge, is_eq, is_ne, is_true, is_false, bool_cases, eq_elim, lt_elim}
 use Rattle.rising.specs.Rising.{contains, unless_in, Rising, Below, Split}
 

@@ -1,5 +1,5 @@
 -- `place_from` meets its contract: a cursor walks the records, and stands at record i after i - n steps.
-use Rattle.std.proofs.Common.{add-one, arith, sym, ◌-◌, ◌≡◌}
+use Rattle.std.proofs.Common.{add-one, arith, sym, ◌≡◌}
 use Rattle.book.proofs.Laws.Books.{Ahead, cursor-ahead}
 use Rattle.book.proofs.Laws.Entries.{cursor_at}
 use Rattle.book.proofs.entries.place_from.Goals as goal

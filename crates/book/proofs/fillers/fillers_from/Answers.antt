@@ -1,9 +1,9 @@
 -- `fillers_from` meets its contract: what is behind are fillers, by the laws of one byte on.
-use Rattle.std.proofs.Common.{ap, arith, sym, ℕ, ◌-◌, ◌∙◌, ◌≡◌}
+use Rattle.std.proofs.Common.{ap, arith, sym, ℕ, ◌∙◌, ◌≡◌}
 use Rattle.prelude.specs.Bytes.{byte}
 use Rattle.prelude.specs.Refusals.{after_end, refusal_at}
 use Rattle.prelude.specs.declared.refusals.Verdict.{Verdict}
-use Rattle.book.specs.Fillers.{filler, fillers_from}
+use Rattle.book.specs.Fillers.{filler}
 use Rattle.book.proofs.Laws.Fillers.{filler-on, filler-other, filler_end}
 use Rattle.book.proofs.fillers.fillers_from.Goals as goal
 

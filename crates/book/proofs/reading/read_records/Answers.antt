@@ -1,5 +1,5 @@
 -- `read_records` meets its contract. The loop's invariant: the book is what is counted so far with the walk that is left.
-use Rattle.std.proofs.Common.{add-one, ap, arith, refl, sym, ◌+◌, ◌-◌, ◌∙◌, ◌≡◌}
+use Rattle.std.proofs.Common.{add-one, ap, arith, refl, sym, ◌+◌, ◌∙◌, ◌≡◌}
 use Rattle.book.specs.Walk.{step_at, walk_of, next_place}
 use Rattle.book.specs.Fillers.{after_end_record}
 use Rattle.book.specs.Books.{accepted, counted}

@@ -1,5 +1,5 @@
 -- `appointment_in` meets its contract: a cursor walks the list up to appointment k, or to its end.
-use Rattle.std.proofs.Common.{add-one, ap, arith, get_or, refl, sym, ℕ, ◌-◌, ◌∙◌, ◌≡◌}
+use Rattle.std.proofs.Common.{add-one, ap, arith, get_or, refl, sym, ℕ, ◌∙◌, ◌≡◌}
 use Rattle.prelude.proofs.Laws.Choice.{lt_yes, lt_no}
 use Rattle.calendar.specs.Lists.{list_walk_from, places_in_list}
 use Rattle.calendar.specs.Shown.{shown_at, appointment_among}

@@ -1,5 +1,5 @@
 -- `count_list` meets its contract: a cursor walks the list, and stands at appointment n after n steps.
-use Rattle.std.proofs.Common.{add-one, arith, sym, ◌-◌}
+use Rattle.std.proofs.Common.{add-one, arith, sym}
 use Rattle.calendar.specs.Lists.{list_walk_from, places_in_list}
 use Rattle.calendar.proofs.Laws.Appointments.{ListAhead, cursor-ahead, cursor_done}
 use Rattle.calendar.proofs.appointments.count_list.Goals as goal

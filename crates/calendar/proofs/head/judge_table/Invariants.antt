@@ -1,5 +1,5 @@
 -- `judge_table` meets its contract. The loop keeps: the table is what is left of it from p on, with no day below low.
-use Rattle.std.proofs.Common.{◌*◌, ◌+◌, ◌-◌, ◌≡◌}
+use Rattle.std.proofs.Common.{◌*◌, ◌+◌, ◌≡◌}
 use Rattle.calendar.specs.Reader.{table_from}
 use Rattle.calendar.proofs.head.judge_table.Given as goal
 

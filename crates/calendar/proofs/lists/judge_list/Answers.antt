@@ -1,5 +1,5 @@
 -- `judge_list` meets its contract. The loop keeps: the list is judged as what is left of it from the place on.
-use Rattle.std.proofs.Common.{ap, arith, sym, true, ◌+◌, ◌-◌, ◌∙◌, ◌≡◌}
+use Rattle.std.proofs.Common.{ap, arith, sym, true, ◌+◌, ◌∙◌, ◌≡◌}
 use Rattle.calendar.specs.Lists.{minute_at, next_at, appointment_ok, verdict_in}
 use Rattle.calendar.proofs.Laws.Lists.{AppointmentAt, appointment-ok-facts, walk_end, walk_more, walk-stop, verdict_end, verdict_more, verdict_stop}
 use Rattle.calendar.proofs.lists.judge_list.Goals as goal

@@ -1,5 +1,5 @@
 -- `span_on` meets its contract. The loop keeps: the day's places are those among the descriptors that are left from p on.
-use Rattle.std.proofs.Common.{◌*◌, ◌+◌, ◌-◌, ◌≡◌}
+use Rattle.std.proofs.Common.{◌*◌, ◌+◌, ◌≡◌}
 use Rattle.prelude.specs.declared.refusals.Verdict.{Verdict}
 use Rattle.calendar.specs.Reader.{days_from}
 use Rattle.calendar.specs.Shown.{places_from, places_on}

@@ -1,5 +1,5 @@
 -- `measure` meets its contract: what is counted so far and what is left of the sums make up the whole.
-use Rattle.std.proofs.Common.{arith, sym, ℕ, ◌*◌, ◌+◌, ◌-◌, ◌<◌, ◌∙◌, ◌≤◌}
+use Rattle.std.proofs.Common.{arith, sym, ℕ, ◌*◌, ◌+◌, ◌<◌, ◌∙◌, ◌≤◌}
 use Rattle.calendar_writer.specs.Sums.{count_in}
 use Rattle.calendar_writer.specs.DayLists.{most_days}
 use Rattle.calendar_writer.proofs.Laws.Turns.{sum-end, sum_none, sum_some}

@@ -1,5 +1,5 @@
 -- `put_blanks` meets its contract: the blocks so far stand in the buffer, those of the sums ahead are left, and each place is behind its block's words.
-use Rattle.std.proofs.Common.{[], add-zero, ap, arith, drop, get_or, get_or-set_other, get_or-set_same, length-set, refl, set, ℕ, ◌*◌, ◌++◌, ◌+◌, ◌-◌, ◌∙◌, ◌≡◌}
+use Rattle.std.proofs.Common.{[], add-zero, ap, arith, drop, get_or, get_or-set_other, get_or-set_same, length-set, refl, set, ℕ, ◌*◌, ◌++◌, ◌+◌, ◌∙◌, ◌≡◌}
 use Rattle.prelude.proofs.Laws.Choice.{lt_elim}
 use Rattle.prelude.proofs.Laws.Grown.{Grown, grown_start, grown-space, grown-more, grown-rest-equal, grown-end}
 use Rattle.calendar_writer.specs.Sums.{row_of, rows, units_to, none_yet}

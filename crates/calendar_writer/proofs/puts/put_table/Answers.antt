@@ -1,5 +1,5 @@
 -- `put_table` meets its contract: the descriptors so far stand in the buffer, and those of the sums ahead are left.
-use Rattle.std.proofs.Common.{ap, arith, drop, get_or, sym, ℕ, ◌++◌, ◌+◌, ◌-◌, ◌∙◌, ◌≡◌}
+use Rattle.std.proofs.Common.{ap, arith, drop, get_or, sym, ℕ, ◌++◌, ◌+◌, ◌∙◌, ◌≡◌}
 use Rattle.prelude.proofs.Laws.Grown.{Grown, grown-space, grown-more, grown-rest-equal, grown-end}
 use Rattle.calendar_writer.specs.Sums.{units_for, descriptor_of, sum_table}
 use Rattle.calendar_writer.proofs.Laws.Turns.{table-end, table_none, table-some}

@@ -1,5 +1,5 @@
 -- `mark_heads` meets its contract. The loop keeps: the heads of the entries before i are marked, and the first bad one is the first from i on.
-use Rattle.std.proofs.Common.{arith, length-set, refl, sym, ◌-◌, ◌∙◌, ◌≡◌}
+use Rattle.std.proofs.Common.{arith, length-set, refl, sym, ◌∙◌, ◌≡◌}
 use Rattle.prelude.proofs.Laws.Verdicts.{unless_bad-true, unless_bad-false, in-turn-first, in-turn-fine, in-turn-refused, in-turn-past}
 use Rattle.chains.specs.Chains.{head_bad}
 use Rattle.chains.proofs.Laws.Marks.{marks-none, marks_next, marked_bad}

@@ -1,5 +1,5 @@
 -- `judge_links` meets its contract. The loop keeps: the chains are linked as those from entry i on.
-use Rattle.std.proofs.Common.{arith, sym, ◌-◌, ◌∙◌}
+use Rattle.std.proofs.Common.{arith, sym, ◌∙◌}
 use Rattle.prelude.proofs.Laws.Verdicts.{in-turn-fine, in-turn-refused, in-turn-past}
 use Rattle.chains.proofs.links.judge_links.Goals as goal
 

@@ -1,5 +1,5 @@
 -- `judge_order` meets its contract. The loop keeps: the chains are ordered as those from entry i on.
-use Rattle.std.proofs.Common.{arith, sym, ◌-◌, ◌∙◌}
+use Rattle.std.proofs.Common.{arith, sym, ◌∙◌}
 use Rattle.prelude.proofs.Laws.Verdicts.{in-turn-fine, in-turn-refused, in-turn-past}
 use Rattle.chains.proofs.order.judge_order.Goals as goal
 

@@ -1,5 +1,5 @@
 -- `pack_days` meets its contract: so far each day stands at its place, and g is the next one's facts.
-use Rattle.std.proofs.Common.{ap, arith, get_or, get_or-set_other, get_or-set_same, length-set, set, suc, ◌+◌, ◌-◌, ◌∙◌, ◌≡◌}
+use Rattle.std.proofs.Common.{ap, arith, get_or, get_or-set_other, get_or-set_same, length-set, set, suc, ◌+◌, ◌∙◌, ◌≡◌}
 use Rattle.prelude.proofs.Laws.Choice.{lt_elim}
 use Rattle.days.specs.Facts.{facts_of, next_facts}
 use Rattle.days.proofs.Laws.Facts.{facts_next}

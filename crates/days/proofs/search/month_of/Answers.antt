@@ -1,5 +1,5 @@
 -- `month_of` meets its contract: after k halvings `left` months are left, from month `low` of the 45 on, and eleven leave one month.
-use Rattle.std.proofs.Common.{arith, ◌-◌, ◌≡◌}
+use Rattle.std.proofs.Common.{arith, ◌≡◌}
 use Rattle.days.proofs.Laws.Halving.{rest_lower, rest-upper, found_by_eleven}
 use Rattle.days.proofs.search.month_of.Goals as goal
 

@@ -1,5 +1,5 @@
 -- `decimal_length` meets its contract. The loop counts the powers of ten up to n.
-use Rattle.std.proofs.Common.{arith, ◌-◌}
+use Rattle.std.proofs.Common.{arith}
 use Rattle.digits.proofs.Laws.Decimal.{powers_start, powers_next, powers_end}
 use Rattle.digits.proofs.puts.decimal_length.Goals as goal
 

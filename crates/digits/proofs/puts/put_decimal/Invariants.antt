@@ -1,5 +1,5 @@
 -- `put_decimal` meets its contract. The loop keeps: the digits of `left` are still to be written, and those behind them stand from i on.
-use Rattle.std.proofs.Common.{◌-◌, ◌≤◌}
+use Rattle.std.proofs.Common.{◌≤◌}
 use Rattle.digits.specs.Digits.{decimal}
 use Rattle.digits.proofs.Laws.Backed.{Backed}
 use Rattle.digits.proofs.puts.put_decimal.Given as goal

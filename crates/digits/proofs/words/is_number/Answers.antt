@@ -1,6 +1,5 @@
 -- `is_number` meets its contract. The loop keeps: the word has nothing but digits where what is left of it has nothing but digits.
-use Rattle.std.proofs.Common.{arith, sym, ◌-◌, ◌∙◌}
-use Rattle.digits.specs.Digits.{is_number}
+use Rattle.std.proofs.Common.{arith, sym, ◌∙◌}
 use Rattle.digits.proofs.Laws.Numbers.{number_empty, number_other, digits_low, digits_high, digits_next, digits_end}
 use Rattle.digits.proofs.words.is_number.Goals as goal
 

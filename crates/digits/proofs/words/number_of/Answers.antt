@@ -1,5 +1,5 @@
 -- `number_of` meets its contract. The loop keeps: v is the value of the bytes that were read, and it is below 65,536.
-use Rattle.std.proofs.Common.{ap, arith, drop, sym, ◌*◌, ◌+◌, ◌-◌, ◌∙◌, ◌≡◌}
+use Rattle.std.proofs.Common.{ap, arith, drop, sym, ◌*◌, ◌+◌, ◌∙◌, ◌≡◌}
 use Rattle.digits.specs.Digits.{value_from, value, capped}
 use Rattle.digits.proofs.Laws.Numbers.{value_is, value_next, value_end, capped_below, capped_larger}
 use Rattle.digits.proofs.words.number_of.Goals as goal

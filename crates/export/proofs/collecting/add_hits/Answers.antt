@@ -1,5 +1,5 @@
 -- `add_hits` meets its contract: the days behind have their weight, those ahead not yet, and none between is missed.
-use Rattle.std.proofs.Common.{arith, refl, ◌-◌}
+use Rattle.std.proofs.Common.{arith, refl}
 use Rattle.calendar_writer.proofs.Laws.Scatter.{added_none, added-hit}
 use Rattle.export.proofs.collecting.add_hits.Goals as goal
 

@@ -1,5 +1,5 @@
 -- `collect` meets its contract: a record that shows is taken in, another is passed, by the laws of `Collecting`.
-use Rattle.std.proofs.Common.{ap, arith, get_or, length, length-set, refl, ℕ, ◌-◌, ◌<◌, ◌∙◌, ◌≡◌}
+use Rattle.std.proofs.Common.{ap, arith, get_or, length, length-set, refl, ℕ, ◌<◌, ◌∙◌, ◌≡◌}
 use Rattle.book.proofs.Laws.Books.{cursor-ahead}
 use Rattle.book.proofs.Laws.Counts.{count_most}
 use Rattle.occurrences.specs.Rules.{rule_shows}

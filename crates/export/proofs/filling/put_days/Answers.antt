@@ -1,5 +1,5 @@
 -- `put_days` meets its contract: the blocks stand empty, and each record puts its appointment on its days, by the laws of `Ready`.
-use Rattle.std.proofs.Common.{arith, length, sym, ◌*◌, ◌+◌, ◌-◌, ◌∙◌, ◌≡◌, ◌≤◌}
+use Rattle.std.proofs.Common.{arith, length, sym, ◌*◌, ◌+◌, ◌∙◌, ◌≡◌, ◌≤◌}
 use Rattle.calendar_writer.specs.Sums.{rows, units_to, none_yet}
 use Rattle.calendar_writer.proofs.Laws.Filling.{filled_self, filled_over}
 use Rattle.export.proofs.Laws.Ready.{ready-sound, ready-long, blank-long, filled-so-far-zero, ready-room, filled-so-far-suc}

@@ -1,5 +1,4 @@
 -- `agrees` meets its contract: the type picks the byte.
-use Rattle.std.proofs.Common.{rules}
 use Rattle.falls.specs.Agrees.{agrees}
 use Rattle.prelude.proofs.Laws.Choice.{picks}
 use Rattle.falls.proofs.rules.agrees.Goals as goal

@@ -1,5 +1,4 @@
 -- `by_date_falls` meets its contract: each return by the tests before it.
-use Rattle.std.proofs.Common.{rules}
 use Rattle.falls.specs.Falls.{by_date_falls}
 use Rattle.prelude.proofs.Laws.Choice.{picks}
 use Rattle.falls.proofs.rules.by_date_falls.Goals as goal

@@ -1,5 +1,4 @@
 -- `by_position_falls` meets its contract: each return by the tests before it.
-use Rattle.std.proofs.Common.{rules}
 use Rattle.falls.specs.Falls.{by_position_falls}
 use Rattle.prelude.proofs.Laws.Choice.{picks}
 use Rattle.falls.proofs.rules.by_position_falls.Goals as goal

@@ -1,5 +1,5 @@
 -- `falls_on` meets its contract: the type picks the rule, by `falls_type`.
-use Rattle.std.proofs.Common.{ap, rules, ◌∙◌}
+use Rattle.std.proofs.Common.{ap, ◌∙◌}
 use Rattle.falls.specs.Falls.{dated_falls, weekly_falls, by_date_falls, by_position_falls, yearly_falls}
 use Rattle.falls.proofs.Laws.Falls.{falls_type}
 use Rattle.prelude.proofs.Laws.Choice.{picks}

@@ -1,5 +1,5 @@
 -- `falls_quickly` meets its contract: the whole rule, or none where the byte does not agree, by `agrees_no`.
-use Rattle.std.proofs.Common.{rules, sym, ◌∙◌}
+use Rattle.std.proofs.Common.{sym, ◌∙◌}
 use Rattle.falls.proofs.Laws.Agrees.{agrees_no}
 use Rattle.falls.proofs.rules.falls_quickly.Goals as goal
 

@@ -1,5 +1,4 @@
 -- `in_span` meets its contract: each return by the tests before it.
-use Rattle.std.proofs.Common.{rules}
 use Rattle.falls.specs.Falls.{in_span}
 use Rattle.prelude.proofs.Laws.Choice.{picks}
 use Rattle.falls.proofs.rules.in_span.Goals as goal

@@ -1,5 +1,4 @@
 -- `on_day` meets its contract: each return by the test, and its callee.
-use Rattle.std.proofs.Common.{rules}
 use Rattle.falls.specs.Falls.{on_day}
 use Rattle.prelude.proofs.Laws.Choice.{picks}
 use Rattle.falls.proofs.rules.on_day.Goals as goal

@@ -1,5 +1,4 @@
 -- `on_missing_day` meets its contract: each choice by its own equation.
-use Rattle.std.proofs.Common.{rules}
 use Rattle.falls.specs.Falls.{on_missing_day}
 use Rattle.falls.proofs.rules.on_missing_day.Goals as goal
 

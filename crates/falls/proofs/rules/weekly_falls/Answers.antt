@@ -1,5 +1,4 @@
 -- `weekly_falls` meets its contract: each return by the tests before it.
-use Rattle.std.proofs.Common.{rules}
 use Rattle.falls.specs.Falls.{weekly_falls}
 use Rattle.prelude.proofs.Laws.Choice.{picks}
 use Rattle.falls.proofs.rules.weekly_falls.Goals as goal

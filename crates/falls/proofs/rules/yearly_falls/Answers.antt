@@ -1,5 +1,4 @@
 -- `yearly_falls` meets its contract: each return by the tests before it.
-use Rattle.std.proofs.Common.{rules}
 use Rattle.falls.specs.Falls.{yearly_falls}
 use Rattle.prelude.proofs.Laws.Choice.{picks}
 use Rattle.falls.proofs.rules.yearly_falls.Goals as goal

@@ -1,6 +1,6 @@
 -- `next_shown` meets its contract: no day from the start up to the present one shows, by `free-wait`; before the start none does, by `free-before`.
 use Rattle.std.proofs.Common.{arith}
-use Rattle.std.proofs.Common.{◌≡◌, ℕ, ◌-◌, false, sym, ap, ◌∙◌, arith}
+use Rattle.std.proofs.Common.{◌≡◌, ℕ, false, sym, ap, ◌∙◌, arith}
 use Rattle.days.specs.Facts.{facts_of}
 use Rattle.days.specs.declared.types.DayFacts.{DayFacts}
 use Rattle.day_steps.specs.Codes.{day_code}

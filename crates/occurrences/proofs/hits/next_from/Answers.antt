@@ -1,6 +1,6 @@
 -- `next_from` meets its contract: no day passed shows, the skipped ones by `spanned_not`.
 use Rattle.std.proofs.Common.{arith}
-use Rattle.std.proofs.Common.{◌≡◌, ◌-◌, false, get_or, sym, ◌∙◌, arith}
+use Rattle.std.proofs.Common.{◌≡◌, false, get_or, sym, ◌∙◌, arith}
 use Rattle.prelude.proofs.Laws.Choice.{lt_elim}
 use Rattle.occurrences.specs.Rules.{rule_shows}
 use Rattle.occurrences.proofs.Laws.Waits.{wait_least, spanned_not}

@@ -1,5 +1,5 @@
 -- `collect` meets its contract: the codes so far, and those of the records ahead that fall on the day, are all there are.
-use Rattle.std.proofs.Common.{List, add-one, ap, arith, length-set, map, refl, suc, sym, take, ℕ, ◌++◌, ◌+◌, ◌-◌, ◌∙◌, ◌∷◌, ◌≡◌}
+use Rattle.std.proofs.Common.{List, add-one, ap, arith, length-set, map, refl, suc, sym, take, ℕ, ◌++◌, ◌∙◌, ◌∷◌, ◌≡◌}
 use Rattle.sorting.specs.Keep.{keep}
 use Rattle.days.specs.declared.types.Minute.{Minute}
 use Rattle.book.proofs.Laws.Books.{cursor_first, cursor-ahead}

@@ -1,5 +1,5 @@
 -- `collect` meets its contract: the codes so far, and those of the records ahead that fall on the day, are all there are.
-use Rattle.std.proofs.Common.{drop, length, map, take, ◌++◌, ◌+◌, ◌-◌, ◌≡◌, ◌≤◌}
+use Rattle.std.proofs.Common.{drop, length, map, take, ◌++◌, ◌-◌, ◌≡◌, ◌≤◌}
 use Rattle.sorting.specs.Keep.{keep}
 use Rattle.book.proofs.Laws.Books.{Cursor}
 use Rattle.pages.specs.Pages.{numbered, falls_on}

@@ -1,5 +1,5 @@
 -- `count_lines` meets its contract: so many are counted, and so many of the records ahead fall on the day.
-use Rattle.std.proofs.Common.{List, add-one, ap, arith, length, sym, zero-add, ◌-◌, ◌∙◌}
+use Rattle.std.proofs.Common.{List, add-one, ap, arith, length, sym, zero-add, ◌∙◌}
 use Rattle.sorting.specs.Keep.{keep}
 use Rattle.book.proofs.Laws.Books.{cursor_first, cursor-ahead}
 use Rattle.pages.specs.Pages.{Numbered, falls_on}

@@ -1,5 +1,5 @@
 -- `prelude::copy_in` meets its contract. The invariant: `dst` has the first j bytes of `src` pasted in; a turn is `paste-suc`, the end `paste-splice`.
-use Rattle.std.proofs.Common.{add-one, arith, length, length-set, ◌-◌, ◌∙◌, ◌≡◌}
+use Rattle.std.proofs.Common.{add-one, arith, length, length-set, ◌∙◌, ◌≡◌}
 use lib.Seq.{paste-suc}
 use Rattle.prelude.proofs.Laws.Splice.{paste-splice}
 use Rattle.prelude.proofs.slices.copy_in.Goals as goal

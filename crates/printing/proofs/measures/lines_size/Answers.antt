@@ -1,5 +1,5 @@
 -- `lines_size` meets its contract: so much is counted, and so much the codes ahead add, by `lines-on`.
-use Rattle.std.proofs.Common.{ap, arith, drop, length, ◌+◌, ◌-◌, ◌≡◌}
+use Rattle.std.proofs.Common.{ap, arith, drop, length, ◌+◌, ◌≡◌}
 use Rattle.printing.specs.Printed.{page_lines}
 use Rattle.printing.specs.Coded.{coded_lines}
 use Rattle.printing.proofs.Laws.Printed.{lines-on, lines_end}

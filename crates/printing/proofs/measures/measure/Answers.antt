@@ -1,5 +1,5 @@
 -- `measure` meets its contract: so much is counted, and so much the records ahead add that fall on the day.
-use Rattle.std.proofs.Common.{List, add-one, ap, arith, length, suc, sym, zero-add, ◌+◌, ◌-◌, ◌∙◌, ◌∷◌, ◌≡◌, ◌≤◌}
+use Rattle.std.proofs.Common.{List, add-one, ap, arith, length, suc, sym, zero-add, ◌+◌, ◌∙◌, ◌∷◌, ◌≡◌, ◌≤◌}
 use Rattle.sorting.specs.Keep.{keep}
 use Rattle.book.proofs.Laws.Books.{cursor_first, cursor-ahead}
 use Rattle.pages.specs.Pages.{Numbered, numbered, falls_on}

@@ -1,5 +1,5 @@
 -- `put_lines` meets its contract: what is left to write are the lines of the codes ahead.
-use Rattle.std.proofs.Common.{ap, arith, drop, sym, ◌++◌, ◌+◌, ◌-◌, ◌∙◌}
+use Rattle.std.proofs.Common.{ap, arith, drop, sym, ◌++◌, ◌+◌, ◌∙◌}
 use Rattle.prelude.proofs.Laws.Grown.{Grown, grown-space, grown-more, grown-rest-equal, grown-end}
 use Rattle.pages.specs.declared.types.Line.{Line}
 use Rattle.printing.specs.Printed.{page_line, page_lines}

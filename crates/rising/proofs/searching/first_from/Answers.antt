@@ -1,5 +1,5 @@
 -- `first_from` meets its contract: the numbers before low are below the one asked for, those from high on are not.
-use Rattle.std.proofs.Common.{arith, ◌-◌}
+use Rattle.std.proofs.Common.{arith}
 use Rattle.rising.proofs.Laws.Rising.{halved-up, halved-down}
 use Rattle.rising.proofs.searching.first_from.Goals as goal
 

@@ -1,5 +1,5 @@
 -- `on_from` meets its contract: the numbers behind are below the one asked for, and the first that is not ends the loop.
-use Rattle.std.proofs.Common.{arith, ◌-◌}
+use Rattle.std.proofs.Common.{arith}
 use Rattle.rising.proofs.Laws.Rising.{below-here}
 use Rattle.rising.proofs.searching.on_from.Goals as goal
 

@@ -1,5 +1,5 @@
 -- `line_count` meets its contract. The loop keeps: the lines counted and those from `start` on are all.
-use Rattle.std.proofs.Common.{ap, arith, length, ◌-◌}
+use Rattle.std.proofs.Common.{ap, arith, length}
 use Rattle.texts.proofs.Laws.Notes.{Line, line-fits, count_next, lines_end}
 use Rattle.texts.proofs.lines.line_count.Goals as goal
 

@@ -1,5 +1,5 @@
 -- `line_length` meets its contract. The loop keeps that no zero stands from `start` up to `end`; within a round the bytes behind are clear one by one.
-use Rattle.std.proofs.Common.{arith, drop, length-drop, sym, ◌+◌, ◌-◌}
+use Rattle.std.proofs.Common.{arith, drop, length-drop, sym, ◌+◌}
 use Rattle.texts.proofs.Laws.Notes.{to_zero_le, WithinNote, within_next, within-next_place, within-zero, to_zero_past_end}
 use Rattle.texts.proofs.lines.line_length.Goals as goal
 

@@ -1,5 +1,5 @@
 -- `line_start` meets its contract. The loop keeps: line k of the note is line `left` of what is left from i on.
-use Rattle.std.proofs.Common.{ap, arith, drop, ◌-◌}
+use Rattle.std.proofs.Common.{ap, arith, drop}
 use Rattle.texts.specs.Lines.{line_start}
 use Rattle.texts.proofs.Laws.Lines.{start_first, start_here_zero, start_here_other, start_end}
 use Rattle.texts.proofs.lines.line_start.Goals as goal

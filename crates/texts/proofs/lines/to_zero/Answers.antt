@@ -1,5 +1,5 @@
 -- `to_zero` meets its contract. The loop keeps that no zero stands from `start` up to `end`.
-use Rattle.std.proofs.Common.{arith, sym, ◌-◌}
+use Rattle.std.proofs.Common.{arith, sym}
 use Rattle.texts.proofs.Laws.Notes.{within_next, within-zero, within_end}
 use Rattle.texts.proofs.lines.to_zero.Goals as goal
 

@@ -1,5 +1,5 @@
 -- `few_lines` meets its contract. The loop keeps: the zeros counted and the lines from `k` on are all lines.
-use Rattle.std.proofs.Common.{arith, le-leb, length, sym, ◌+◌, ◌-◌, ◌≡◌}
+use Rattle.std.proofs.Common.{arith, le-leb, length, sym, ◌+◌, ◌≡◌}
 use borrow.Author.Tests.{lt-leb}
 use Rattle.texts.specs.Notes.{lines_of, most_lines}
 use Rattle.texts.proofs.Laws.Rules.{count_zero, count_other, count_last}

@@ -1,5 +1,5 @@
 -- `lines_ok` meets its contract, by the laws of its two tests.
-use Rattle.std.proofs.Common.{arith, rules, sym, ◌∙◌}
+use Rattle.std.proofs.Common.{arith, sym, ◌∙◌}
 use Rattle.texts.proofs.Laws.Rules.{note_many, note_few}
 use Rattle.texts.proofs.rules.lines_ok.Goals as goal
 

@@ -1,6 +1,5 @@
 -- `no_zero` meets its contract. The loop keeps: the text has no zero where what is left of it has none.
-use Rattle.std.proofs.Common.{arith, sym, ◌-◌, ◌∙◌}
-use Rattle.texts.specs.Notes.{no_zero}
+use Rattle.std.proofs.Common.{arith, sym, ◌∙◌}
 use Rattle.texts.proofs.Laws.Notes.{clean_zero, clean_other, clean_end}
 use Rattle.texts.proofs.rules.no_zero.Goals as goal
 

@@ -1,5 +1,5 @@
 -- `note_ok` meets its contract: a short note and one that is too long by their laws, any other by its lines.
-use Rattle.std.proofs.Common.{arith, rules, sym}
+use Rattle.std.proofs.Common.{arith, sym}
 use Rattle.texts.proofs.Laws.Rules.{note_short, note_long}
 use Rattle.texts.proofs.rules.note_ok.Goals as goal
 

@@ -1,6 +1,6 @@
 -- `note_ok_at` meets its contract as `note_ok` does, on that stretch of the body.
 -- the stretch has its length
-use Rattle.std.proofs.Common.{arith, drop, length, length-drop, length-take-le, rules, sym, ◌≡◌}
+use Rattle.std.proofs.Common.{arith, drop, length, length-drop, length-take-le, sym, ◌≡◌}
 use Rattle.prelude.specs.Bytes.{part}
 use Rattle.texts.proofs.Laws.Rules.{note_short, note_long}
 use Rattle.texts.proofs.rules.note_ok_at.Goals as goal

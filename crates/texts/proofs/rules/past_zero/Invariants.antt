@@ -1,5 +1,5 @@
 -- `past_zero` meets its contract. The loop keeps: none of the 40 bytes from place `start + k` on is zero.
-use Rattle.std.proofs.Common.{ℕ, ◌+◌, ◌-◌, ◌<◌, ◌≡◌, ◌≤◌}
+use Rattle.std.proofs.Common.{ℕ, ◌+◌, ◌<◌, ◌≡◌, ◌≤◌}
 use Rattle.prelude.specs.Bytes.{byte}
 use Rattle.texts.proofs.rules.past_zero.Given as goal
 

@@ -1,6 +1,5 @@
 -- `short_lines` meets its contract. The loop keeps: all lines are short where those from `start` on are.
-use Rattle.std.proofs.Common.{arith, rules, sym, ◌-◌, ◌∙◌}
-use Rattle.texts.specs.Notes.{short_lines}
+use Rattle.std.proofs.Common.{arith, sym, ◌∙◌}
 use Rattle.texts.proofs.Laws.Rules.{short-jump, short-never, short_end}
 use Rattle.texts.proofs.rules.short_lines.Goals as goal
 

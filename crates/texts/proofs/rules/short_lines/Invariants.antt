@@ -1,5 +1,5 @@
 -- `short_lines` meets its contract. The loop keeps: all lines are short where those from `start` on are.
-use Rattle.std.proofs.Common.{drop, length, rules, ◌-◌, ◌≡◌, ◌≤◌}
+use Rattle.std.proofs.Common.{drop, length, ◌-◌, ◌≡◌, ◌≤◌}
 use Rattle.texts.specs.Notes.{lines_of, short_lines}
 use Rattle.texts.proofs.rules.short_lines.Given as goal
 
