@@ -11,7 +11,7 @@ fn main() {
     if !archive.is_file() {
         eprintln!("There is no proved library at {}.", archive.display());
         eprintln!(
-            "Run `rt staticlib cabi` at the top of the repository, or name another archive by APPTBOOK_LIB."
+            "Run `./do library` at the top of the repository, or name another archive by APPTBOOK_LIB."
         );
         process::exit(1);
     }
