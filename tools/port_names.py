@@ -125,6 +125,12 @@ def turn_line(line, new, code):
 
 
 def main():
+    if "--help" in sys.argv:
+        print(__doc__)
+        return
+    if not any(n[0].islower() and "-" not in n and snake(n) != n for n in definitions()):
+        print("port_names: no definition is in camel case: there is nothing to do")
+        return
     new = renaming()
     if "--list" in sys.argv:
         for o, n in new.items():

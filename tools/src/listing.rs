@@ -1,7 +1,7 @@
 //! `crates.txt`: each crate with the crates that its files name, under headings `## NAME`, from the lowest layer up.
 
 /// Libraries of the kit, which are no crates of the repository.
-const KIT: [&str; 5] = ["bytes", "check", "io", "libc", "os"];
+const KIT: [&str; 3] = ["bytes", "check", "io"];
 
 pub struct Listed {
     pub name: String,

@@ -8,8 +8,14 @@ use tools::unfolded::{unfolding, unfolds};
 #[test]
 fn the_default_choice_is_known_in_falls_alone() {
     let falls = |file: &str| read(&top().join("crates/falls").join(file)).expect("a file of falls");
-    assert!(falls("specs/Falls.antt").contains("\nunfoldable pub default_choice : ShortMonth\n"), "it is shut");
-    assert!(falls("proofs/Laws/Examples.antt").contains("\ndefault_shows : falls default_choice "), "not public");
+    assert!(
+        falls("specs/Falls.antt").contains("\nunfoldable pub default_choice : ShortMonth\n"),
+        "it is shut"
+    );
+    assert!(
+        falls("proofs/Laws/Examples.antt").contains("\ndefault_shows : falls default_choice "),
+        "not public"
+    );
     assert_eq!(
         unfolding(&top(), "default_choice").expect("files"),
         ["falls/proofs/choice/default_choice/Answers.antt", "falls/proofs/Laws/Examples.antt"]
