@@ -18,7 +18,7 @@ fn the_default_choice_is_known_in_falls_alone() {
     );
     assert_eq!(
         unfolding(&top(), "default_choice").expect("files"),
-        ["falls/proofs/choice/default_choice/Answers.antt", "falls/proofs/Laws/Examples.antt"]
+        ["falls/proofs/Laws/Examples.antt", "falls/proofs/choice/default_choice/Answers.antt"]
     );
 }
 
