@@ -88,7 +88,9 @@ job_library() { #: library                        target/staticlib/libcabi.a, fo
 
 job_program() { #: program NAME                   target/bin/NAME, one of the programs
     [ $# -gt 0 ] || { job_help; exit 2; }
+    # the status is the program's own: whether it was built is seen by its file
     (cd -- "crates/$1" && mkdir -p out && rm -f "out/$1" && rt run </dev/null >out/run.log 2>&1) || true
+    [ -x "crates/$1/out/$1" ] || { cat "crates/$1/out/run.log" >&2; exit 1; }
     mkdir -p target/bin
     cp "crates/$1/out/$1" "target/bin/$1"
 }
