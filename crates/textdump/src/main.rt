@@ -18,7 +18,6 @@ use std::env::Env;
 use std::io::{Input, Print};
 
 // The bytes that one word may have at most.
-
 const WORD_MOST: usize = 4096;
 
 // The day that a word names; one that is no Calendar day for any other word.
