@@ -1,8 +1,6 @@
 // The program: a book on standard input, a command in its arguments, the answer on standard output.
 #![tactic(auto)]
 
-ghost use Rattle.std.specs.Prelude.{◌≡◌, ◌≤◌, ◌-◌, length};
-
 use commands::parsing::{command_of, word_of};
 use commands::responding::respond;
 use commands::types::{PROGRAM_ROOM, Word};
@@ -21,27 +19,18 @@ fn word_at<R: Env>(rt: &R, i: usize, space: &mut [u8]) -> Word {
     }
 }
 
-// The words of the command line, with the program's own name.
+// How many words stand behind the program's own name.
 fn word_count<R: Env>(rt: &R) -> usize {
     let mut space = [0u8; 1];
     for i in 0..usize::MAX {
         if let Err(FillError::NotPresent) = rt.arg(i, &mut space) {
-            return i;
+            return i.saturating_sub(1);
         }
     }
     usize::MAX
 }
 
-// The words after the program's own name.
-fn words_of(count: usize) -> usize
-    ensures { result ≡ count - 1 }
-{
-    if count == 0 {
-        return 0;
-    }
-    count - 1
-}
-
+// Kept: arrays on the stack with a length beside, since the program allocates nothing.
 fn main(rt: HostRuntime) {
     let mut book = [0u8; READ_MOST];
     let mut input = rt.reader();
@@ -50,7 +39,7 @@ fn main(rt: HostRuntime) {
     let a = word_at(&rt, 1, &mut space);
     let b = word_at(&rt, 2, &mut space);
     let c = word_at(&rt, 3, &mut space);
-    let command = command_of(words_of(word_count(&rt)), a, b, c);
+    let command = command_of(word_count(&rt), a, b, c);
     let mut out = [0u8; PROGRAM_ROOM];
     let n = respond(&book[..size], command, &mut out);
     // an answer that cannot be written is lost, as the process has no other way to say it

@@ -1,11 +1,11 @@
 -- Bytes after the end record, document 02, request R-1: "Files from a modem come in blocks of 128, filled up with 1Ah."
 -- Assumes nothing.
-use Rattle.std.specs.Prelude.{ℕ, zero, suc, ◌+◌, ◌-◌, ◌≤◌, ◌≡◌, List, ◌++◌, length, take, replicate}
+use Rattle.std.specs.Prelude.{Ok, Err, ℕ, zero, suc, ◌+◌, ◌-◌, ◌≤◌, ◌≡◌, List, ◌++◌, length, take, replicate}
 use Rattle.prelude.specs.Choice.{if_lt, if_eq}
 use Rattle.prelude.specs.Bytes.{byte}
 use Rattle.prelude.specs.Refusals.{after_end, refusal_at}
-use Rattle.prelude.specs.declared.refusals.Verdict.{Verdict}
 use Rattle.book.specs.Walk.{Walk, more, ended, stopped, walk_of}
+use Rattle.prelude.specs.Verdicts.{Verdict}
 
 -- "filled up with 1Ah"
 abbrev pub filler : ℕ
@@ -17,13 +17,13 @@ most_fillers = 127
 
 -- of the k bytes from p on, "all 1Ah", else 9 names "the first that isn't 1Ah"
 unfoldable pub fillers_from : ℕ → List ℕ → ℕ → Verdict
-fillers_from zero f p = Verdict.Fine
-fillers_from (suc k) f p = if_eq (byte f p) filler (fillers_from k f (p + 1)) (Verdict.Refused (refusal_at after_end p))
+fillers_from zero f p = Ok tt
+fillers_from (suc k) f p = if_eq (byte f p) filler (fillers_from k f (p + 1)) (Err (refusal_at after_end p))
 
 -- "9 names the first byte after the end record when there are more than 127, else the first that isn't 1Ah"; the end record ends at e
 unfoldable pub after_end_record : List ℕ → ℕ → Verdict
 after_end_record f e =
-    if_lt most_fillers (length f - e) (Verdict.Refused (refusal_at after_end e)) (fillers_from (length f - e) f e)
+    if_lt most_fillers (length f - e) (Err (refusal_at after_end e)) (fillers_from (length f - e) f e)
 
 -- the place behind the end record that a walk meets; 0 where it meets none
 unfoldable pub end_in : Walk → ℕ

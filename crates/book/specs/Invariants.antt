@@ -1,6 +1,6 @@
 -- What an accepted book is, and what stands at the place of one of its records.
 -- Assumes nothing.
-use Rattle.std.specs.Prelude.{ℕ, ◌+◌, ◌≤◌, ◌≡◌, List, length, true}
+use Rattle.std.specs.Prelude.{Ok, ℕ, ◌+◌, ◌≤◌, ◌≡◌, List, length, true}
 use Rattle.records.specs.Bodies.{judge_body}
 use Rattle.book.specs.Walk.{type_at, body_length_at, body_at}
 use Rattle.book.specs.Settings.{book_identified, settings_of, settings_ok, first_record}
@@ -12,7 +12,7 @@ pub record RecordAt (f : List ℕ) (at : ℕ) : Type 0 where
   pub low : 1 ≤ type_at f at
   pub high : type_at f at ≤ 6
   pub body : at + 3 + body_length_at f at ≤ length f
-  pub fine : judge_body (type_at f at) (body_at f at) ≡ 0
+  pub fine : judge_body (type_at f at) (body_at f at) ≡ Ok tt
 
 -- what an accepted book is
 pub record AcceptedBook (f : List ℕ) (b : Book) : Type 0 where

@@ -4,6 +4,7 @@
 pub mod entries;
 mod fillers;
 pub mod lines;
+pub mod located;
 pub mod reading;
 pub mod settings;
 mod steps;

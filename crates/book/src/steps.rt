@@ -1,72 +1,55 @@
 // What stands at a record's place: the three head bytes (4), 5, the body (4), then 6, 7, 8.
-ghost use Rattle.std.specs.Prelude.{◌≡◌, ◌+◌, ◌≤◌, length};
-ghost use Rattle.book.specs.Walk.{judge_head, body_step, step_at};
+ghost use Rattle.std.specs.Prelude.{◌≡◌, ◌+◌, ◌≤◌, length, MatchResult, Ok, Err};
+ghost use Rattle.prelude.specs.Refusals.{refusal_at, number_of};
+ghost use Rattle.book.specs.Walk.{judge_head, step_at};
 
-use crate::types::StepAnswer;
-use prelude::refusals::{CUT_SHORT, Refusal, UNKNOWN_TYPE};
+use crate::entries::HEAD;
+use prelude::refusals::{Fault, Refusal};
 use prelude::slices::word_in;
 use records::bodies::judge_body;
 
-// The head's number where its three bytes are there.
-fn judge_head(size: usize, at: usize, t: u8, l: usize) -> u32
+// The type of the end record.
+const END: u8 = 50;
+
+// A head whose three bytes are there.
+fn judge_head(size: usize, at: usize, t: u8, l: usize) -> Result<(), Fault>
     requires { at + 3 ≤ size }
     ensures { result ≡ judge_head size at t l }
 {
-    if t == 50 {
-        if l == 0 {
-            return 0;
-        }
-        return UNKNOWN_TYPE;
+    match t {
+        1..=6 if l <= size - at - HEAD => Ok(()),
+        1..=6 => Err(Fault::CutShort),
+        END if l == 0 => Ok(()),
+        _ => Err(Fault::UnknownType),
     }
-    if t < 1 {
-        return UNKNOWN_TYPE;
-    }
-    if 6 < t {
-        return UNKNOWN_TYPE;
-    }
-    if size - at - 3 < l {
-        return CUT_SHORT;
-    }
-    0
 }
 
-fn judged_at(n: u32, at: usize, next: usize) -> StepAnswer
-    ensures { result ≡ body_step n at next }
+// The step from a place, or what is refused there.
+// Kept: a place within the file in clauses, here and in fillers: one walk uses them, and a struct of both would be built at each step.
+fn step_or_fault(file: &[u8], at: usize) -> Result<Option<usize>, Fault>
+    requires { at ≤ length file.now }
+    ensures { MatchResult result (λ step. step_at file.now at ≡ Ok step) (λ e. step_at file.now at ≡ Err (refusal_at (number_of e) at)) }
 {
-    if n == 0 {
-        return StepAnswer::Record(next);
+    let size = file.len();
+    if size - at < HEAD {
+        return Err(Fault::CutShort);
     }
-    StepAnswer::Stopped(Refusal {
-        number: n,
-        place: at,
-    })
+    let t = file[at];
+    let l = usize::from(word_in(file, at + 1));
+    judge_head(size, at, t, l)?;
+    if t == END {
+        return Ok(None);
+    }
+    let from = at + HEAD;
+    let next = from + l;
+    judge_body(t, &file[from..next])?;
+    Ok(Some(next))
 }
 
-pub fn step_at(file: &[u8], at: usize) -> StepAnswer
+// The place after the record at a place, or none at the end record.
+pub fn step_at(file: &[u8], at: usize) -> Result<Option<usize>, Refusal>
     requires { at ≤ length file.now }
     ensures { result ≡ step_at file.now at }
 {
-    let size = file.len();
-    if size - at < 3 {
-        return StepAnswer::Stopped(Refusal {
-            number: CUT_SHORT,
-            place: at,
-        });
-    }
-    let t = file[at];
-    let l = word_in(file, at + 1) as usize;
-    let head = judge_head(size, at, t, l);
-    if head == 0 {
-        if t == 50 {
-            return StepAnswer::End;
-        }
-        let from = at + 3;
-        let next = from + l;
-        let n = judge_body(t, &file[from..next]);
-        return judged_at(n, at, next);
-    }
-    StepAnswer::Stopped(Refusal {
-        number: head,
-        place: at,
-    })
+    step_or_fault(file, at).map_err(|fault| fault.at(at))
 }

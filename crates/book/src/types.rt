@@ -1,6 +1,5 @@
 // What reading a book gives.
 use days::types::Minute;
-use prelude::refusals::Refusal;
 use prelude::slices::Stretch;
 use records::types::Record;
 
@@ -26,20 +25,6 @@ pub struct Book {
     pub records: usize,
 }
 
-#[derive(Clone, Copy)]
-pub enum BookAnswer {
-    Accepted(Book),
-    Refused(Refusal),
-}
-
-// What stands at a record's place: a record with the next place, the end record, or a refusal.
-#[derive(Clone, Copy)]
-pub enum StepAnswer {
-    Record(usize),
-    End,
-    Stopped(Refusal),
-}
-
 // A record with its own place in the file, and the stretches of its text and note.
 #[derive(Clone, Copy)]
 pub struct Entry {
@@ -54,17 +39,4 @@ pub struct Entry {
 pub struct Texts {
     pub text: Stretch,
     pub note: Stretch,
-}
-
-#[derive(Clone, Copy)]
-pub enum RecordAnswer {
-    Record(Entry),
-    Refused(Refusal),
-}
-
-// A stretch of the file: a note, or a line of one.
-#[derive(Clone, Copy)]
-pub enum StretchAnswer {
-    Stretch(Stretch),
-    Refused(Refusal),
 }

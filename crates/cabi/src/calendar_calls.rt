@@ -6,21 +6,21 @@ ghost use Rattle.marshal.specs.CalendarAnswers.{descriptor_out, appointment_out}
 ghost use Rattle.marshal.specs.CountAnswers.{count_out};
 
 use days::types::CalendarDay;
-use marshal::calendar_answers::{AppointmentOut, DescriptorOut, appointment_out, descriptor_out};
-use marshal::count_answers::{CountOut, count_out};
+use marshal::calendar_answers::{AppointmentOut, DescriptorOut};
+use marshal::count_answers::CountOut;
 
 #[unsafe(no_mangle)]
 pub extern "C" fn apptbook_read_calendar(file: &[u8]) -> CountOut
     ensures { result ≡ count_out (calendar_of file.now) }
 {
-    count_out(calendar::reading::read_calendar(file))
+    CountOut::from(calendar::reading::read_calendar(file))
 }
 
 #[unsafe(no_mangle)]
 pub extern "C" fn apptbook_calendar_day(file: &[u8], descriptor: usize) -> DescriptorOut
     ensures { result ≡ descriptor_out (descriptor_answer file.now descriptor) }
 {
-    descriptor_out(calendar::shown::descriptor_at(file, descriptor))
+    DescriptorOut::from(calendar::shown::descriptor_at(file, descriptor))
 }
 
 #[unsafe(no_mangle)]
@@ -28,7 +28,7 @@ pub extern "C" fn apptbook_calendar_appointments(file: &[u8], day: u16) -> Count
     ensures { result ≡ count_out (count_answer file.now day) }
 {
     let n = CalendarDay(day);
-    count_out(calendar::shown::appointment_count(file, n))
+    CountOut::from(calendar::shown::appointment_count(file, n))
 }
 
 #[unsafe(no_mangle)]
@@ -40,5 +40,5 @@ pub extern "C" fn apptbook_calendar_appointment(
     ensures { result ≡ appointment_out (appointment_answer file.now day appointment) }
 {
     let n = CalendarDay(day);
-    appointment_out(calendar::shown::appointment_at(file, n, appointment))
+    AppointmentOut::from(calendar::shown::appointment_at(file, n, appointment))
 }

@@ -5,7 +5,7 @@ ghost use Rattle.marshal.specs.ChainAnswers.{PromisedOut};
 ghost use Rattle.marshal.specs.CountAnswers.{count_out};
 
 use chains::checking::check_chains;
-use marshal::count_answers::{CountOut, count_out};
+use marshal::count_answers::CountOut;
 
 #[unsafe(no_mangle)]
 pub extern "C" fn apptbook_check_chains(
@@ -18,5 +18,5 @@ pub extern "C" fn apptbook_check_chains(
     ensures gives { result ≡ count_out (chains_answer table.now previous.now next.now kinds.now minutes.now) }
     ensures shown { PromisedOut table.now next.now result }
 {
-    count_out(check_chains(table, previous, next, kinds, minutes))
+    CountOut::from(check_chains(table, previous, next, kinds, minutes))
 }

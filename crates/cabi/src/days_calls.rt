@@ -4,17 +4,15 @@ ghost use Rattle.days.specs.Dates.{real};
 ghost use Rattle.days.specs.Answers.{length_answer, day_answer, date_answer, weekday_answer, facts_answer, next_answer, calendar_of_psion, psion_of_calendar};
 ghost use Rattle.marshal.specs.DayAnswers.{length_out, day_out, psion_out, date_out, weekday_out, facts_out, facts_in};
 
-use days::types::{CalendarDay, Date, PsionDay};
-use marshal::day_answers::{
-    DateOut, DayOut, LengthOut, WeekdayOut, date_out, day_out, length_out, psion_out, weekday_out,
-};
-use marshal::day_facts::{FactsOut, facts_in, facts_out};
+use days::types::{CalendarDay, Date, DayFacts, PsionDay};
+use marshal::day_answers::{DateOut, DayOut, LengthOut, WeekdayOut};
+use marshal::day_facts::FactsOut;
 
 #[unsafe(no_mangle)]
 pub extern "C" fn apptbook_month_length(year: u16, month: u16) -> LengthOut
     ensures { result ≡ length_out (length_answer year month) }
 {
-    length_out(days::dates::month_length(year, month))
+    LengthOut::from(days::dates::month_length(year, month))
 }
 
 #[unsafe(no_mangle)]
@@ -28,48 +26,47 @@ pub extern "C" fn apptbook_is_real_date(year: u16, month: u16, day: u16) -> bool
 pub extern "C" fn apptbook_day_of_date(year: u16, month: u16, day: u16) -> DayOut
     ensures { result ≡ day_out (day_answer (record { year = year; month = month; day = day })) }
 {
-    day_out(days::numbers::day_of_date(Date { year, month, day }))
+    DayOut::from(days::numbers::day_of_date(Date { year, month, day }))
 }
 
 #[unsafe(no_mangle)]
 pub extern "C" fn apptbook_date_of_day(day: u16) -> DateOut
     ensures { result ≡ date_out (date_answer (record { 0 = day })) }
 {
-    date_out(days::numbers::date_of_day(CalendarDay(day)))
+    DateOut::from(days::numbers::date_of_day(CalendarDay(day)))
 }
 
 #[unsafe(no_mangle)]
 pub extern "C" fn apptbook_weekday(day: u16) -> WeekdayOut
     ensures { result ≡ weekday_out (weekday_answer (record { 0 = day })) }
 {
-    weekday_out(days::numbers::weekday_of_day(CalendarDay(day)))
+    WeekdayOut::from(days::numbers::weekday_of_day(CalendarDay(day)))
 }
 
 #[unsafe(no_mangle)]
 pub extern "C" fn apptbook_day_facts(day: u16) -> FactsOut
     ensures { result ≡ facts_out (facts_answer (record { 0 = day })) }
 {
-    facts_out(days::facts::facts_of_day(CalendarDay(day)))
+    FactsOut::from(days::facts::facts_of_day(CalendarDay(day)))
 }
 
 #[unsafe(no_mangle)]
 pub extern "C" fn apptbook_next_day(facts: FactsOut) -> FactsOut
     ensures { result ≡ facts_out (next_answer (facts_in facts)) }
 {
-    let f = facts_in(facts);
-    facts_out(days::facts::next_day(f))
+    FactsOut::from(days::facts::next_day(DayFacts::from(facts)))
 }
 
 #[unsafe(no_mangle)]
 pub extern "C" fn apptbook_calendar_of_psion(day: u16) -> DayOut
     ensures { result ≡ day_out (calendar_of_psion (record { 0 = day })) }
 {
-    day_out(days::psion::calendar_of_psion(PsionDay(day)))
+    DayOut::from(days::psion::calendar_of_psion(PsionDay(day)))
 }
 
 #[unsafe(no_mangle)]
 pub extern "C" fn apptbook_psion_of_calendar(day: u16) -> DayOut
     ensures { result ≡ psion_out (psion_of_calendar (record { 0 = day })) }
 {
-    psion_out(days::psion::psion_of_calendar(CalendarDay(day)))
+    DayOut::from(days::psion::psion_of_calendar(CalendarDay(day)))
 }

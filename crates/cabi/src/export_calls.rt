@@ -6,7 +6,7 @@ ghost use Rattle.marshal.specs.CountAnswers.{count_out};
 
 use days::types::CalendarDay;
 use falls::types::ShortMonth;
-use marshal::count_answers::{CountOut, count_out};
+use marshal::count_answers::CountOut;
 use marshal::page_answers::choice_of;
 
 #[unsafe(no_mangle)]
@@ -22,5 +22,5 @@ pub extern "C" fn apptbook_export(
 {
     let c: ShortMonth = choice_of(last);
     let n = CalendarDay(first);
-    count_out(export::calls::export(file, n, count, c, buffer))
+    CountOut::from(export::calls::export(file, n, count, c, buffer))
 }

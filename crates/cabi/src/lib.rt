@@ -1,4 +1,5 @@
 // The static library: the calls that C and Rust link. include/apptbook.h is its header; how answers cross is in crate marshal.
+// Kept: names, numbers, flags and pointers with lengths are those of that header, a function a call.
 #![tactic(auto)]
 
 pub mod book_calls;

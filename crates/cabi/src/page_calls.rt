@@ -10,10 +10,8 @@ ghost use Rattle.marshal.specs.CountAnswers.{count_out};
 use days::types::CalendarDay;
 use falls::choice::default_choice;
 use falls::types::ShortMonth;
-use marshal::count_answers::{CountOut, count_out};
-use marshal::page_answers::{
-    FallsOut, OccurrenceOut, PageLineOut, choice_of, falls_out, last_of, next_out, page_line_out,
-};
+use marshal::count_answers::CountOut;
+use marshal::page_answers::{FallsOut, OccurrenceOut, PageLineOut, choice_of, last_of};
 
 #[unsafe(no_mangle)]
 pub extern "C" fn apptbook_default_last() -> bool
@@ -29,7 +27,7 @@ pub extern "C" fn apptbook_falls_on(file: &[u8], record: usize, day: u16, last: 
 {
     let c: ShortMonth = choice_of(last);
     let n = CalendarDay(day);
-    falls_out(pages::next::record_falls(file, record, n, c))
+    FallsOut::from(pages::next::record_falls(file, record, n, c))
 }
 
 #[unsafe(no_mangle)]
@@ -38,7 +36,7 @@ pub extern "C" fn apptbook_page_lines(file: &[u8], day: u16, last: bool) -> Coun
 {
     let c: ShortMonth = choice_of(last);
     let n = CalendarDay(day);
-    count_out(pages::lines::page_lines(file, n, c))
+    CountOut::from(pages::lines::page_lines(file, n, c))
 }
 
 #[unsafe(no_mangle)]
@@ -47,7 +45,7 @@ pub extern "C" fn apptbook_page_line(file: &[u8], day: u16, last: bool, line: us
 {
     let c: ShortMonth = choice_of(last);
     let n = CalendarDay(day);
-    page_line_out(pages::lines::line_at(file, n, c, line))
+    PageLineOut::from(pages::lines::line_at(file, n, c, line))
 }
 
 #[unsafe(no_mangle)]
@@ -61,7 +59,7 @@ pub extern "C" fn apptbook_next_occurrence(
 {
     let c: ShortMonth = choice_of(last);
     let n = CalendarDay(day);
-    next_out(pages::next::next_occurrence(file, record, n, c))
+    OccurrenceOut::from(pages::next::next_occurrence(file, record, n, c))
 }
 
 #[unsafe(no_mangle)]
@@ -70,7 +68,7 @@ pub extern "C" fn apptbook_page_length(file: &[u8], day: u16, last: bool) -> Cou
 {
     let c: ShortMonth = choice_of(last);
     let n = CalendarDay(day);
-    count_out(printing::calls::page_length(file, n, c))
+    CountOut::from(printing::calls::page_length(file, n, c))
 }
 
 #[unsafe(no_mangle)]
@@ -85,5 +83,5 @@ pub extern "C" fn apptbook_print_page(
 {
     let c: ShortMonth = choice_of(last);
     let n = CalendarDay(day);
-    count_out(printing::calls::print_page(file, n, c, buffer))
+    CountOut::from(printing::calls::print_page(file, n, c, buffer))
 }

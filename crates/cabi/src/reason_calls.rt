@@ -7,7 +7,7 @@ ghost use Rattle.reasons.specs.Answers.{record_why};
 use days::types::CalendarDay;
 use falls::types::ShortMonth;
 use marshal::page_answers::choice_of;
-use marshal::reason_answers::{ReasonOut, reason_out};
+use marshal::reason_answers::ReasonOut;
 use reasons::calls::why;
 
 #[unsafe(no_mangle)]
@@ -17,5 +17,5 @@ pub extern "C" fn apptbook_why(file: &[u8], record: usize, day: u16, last: bool)
 {
     let c: ShortMonth = choice_of(last);
     let n = CalendarDay(day);
-    reason_out(why(file, record, n, c))
+    ReasonOut::from(why(file, record, n, c))
 }

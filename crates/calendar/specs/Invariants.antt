@@ -1,8 +1,7 @@
 -- What an accepted Calendar file is: its blocks, its lists, and the bytes of an appointment.
 -- Assumes nothing.
-use Rattle.std.specs.Prelude.{ℕ, ◌<◌, ◌≤◌, ◌+◌, ◌≡◌, List, length, true}
+use Rattle.std.specs.Prelude.{Ok, ℕ, ◌<◌, ◌≤◌, ◌+◌, ◌≡◌, List, length, true}
 use Rattle.prelude.specs.Bytes.{byte, word}
-use Rattle.prelude.specs.declared.refusals.Verdict.{Verdict}
 use Rattle.calendar.specs.Reader.{most_bytes, calendar_identified, count_of, table_end, day_at, offset_at, block_at, list_end, table_from, days_from}
 use Rattle.calendar.specs.Lists.{size_at, next_at, list_walk_from, places_in_list, verdict_in}
 use Rattle.calendar.specs.Shown.{places_on}
@@ -35,8 +34,8 @@ pub record AcceptedFile (f : List ℕ) (n : ℕ) : Type 0 where
   pub named : calendar_identified f ≡ true
   pub count : n ≡ count_of f
   pub whole : table_end f ≤ length f
-  pub rises : table_from (count_of f) f 64 0 ≡ Verdict.Fine
-  pub days : days_from (count_of f) f 64 ≡ Verdict.Fine
+  pub rises : table_from (count_of f) f 64 0 ≡ Ok tt
+  pub days : days_from (count_of f) f 64 ≡ Ok tt
 
 -- a table of n descriptors that lies in the file
 pub record WholeTable (f : List ℕ) (n : ℕ) : Type 0 where
@@ -59,7 +58,7 @@ pub record AppointmentIn (f : List ℕ) (at : ℕ) : Type 0 where
 -- a list from a place to its end e without refusal
 pub record FineList (f : List ℕ) (e from : ℕ) : Type 0 where
   pub list : ListIn f e
-  pub fine : verdict_in (list_walk_from f e 0 from) ≡ Verdict.Fine
+  pub fine : verdict_in (list_walk_from f e 0 from) ≡ Ok tt
 
 -- the list of a day
 pub record ListOn (f : List ℕ) (d from e : ℕ) : Type 0 where

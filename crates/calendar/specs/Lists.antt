@@ -1,11 +1,11 @@
 -- A day's list of appointments as it is read, document 01 "The Calendar file": one after the other, up to the list's end.
 -- Assumes nothing.
-use Rattle.std.specs.Prelude.{ℕ, zero, suc, ◌+◌, ◌-◌, Bool, true, false, List, [], ◌∷◌}
+use Rattle.std.specs.Prelude.{Ok, Err, ℕ, zero, suc, ◌+◌, ◌-◌, Bool, true, false, List, [], ◌∷◌}
 use Rattle.prelude.specs.Choice.{if_lt, if_eq, if_b}
 use Rattle.prelude.specs.Bytes.{byte, word}
 use Rattle.prelude.specs.Refusals.{bad_appointment, refusal_at}
-use Rattle.prelude.specs.declared.refusals.Verdict.{Verdict}
 use Rattle.days.specs.Days.{last_minute}
+use Rattle.prelude.specs.Verdicts.{Verdict}
 
 -- "Appointment: size byte, flags (1 alarm, 2 special time), minute, text, zero byte."
 abbrev pub size_at : List ℕ → ℕ → ℕ
@@ -65,5 +65,5 @@ places_in_list (stopped at) = []
 -- "24 .. appointment"
 unfoldable pub verdict_in : ListWalk → Verdict
 verdict_in (more at w) = verdict_in w
-verdict_in ended = Verdict.Fine
-verdict_in (stopped at) = Verdict.Refused (refusal_at bad_appointment at)
+verdict_in ended = Ok tt
+verdict_in (stopped at) = Err (refusal_at bad_appointment at)

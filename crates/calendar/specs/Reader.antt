@@ -1,15 +1,15 @@
 -- A Calendar file as it is read, document 01 "Order": "20, 21, table length, the descriptors (22), then each day 23 and 24".
 -- Assumes nothing.
-use Rattle.std.specs.Prelude.{ℕ, zero, suc, ◌+◌, ◌*◌, Bool, true, false, List, length}
+use Rattle.std.specs.Prelude.{Result, Ok, Err, ℕ, zero, suc, ◌+◌, ◌*◌, Bool, true, false, List, length}
 use Rattle.prelude.specs.Choice.{if_lt, if_eq, if_b}
 use Rattle.prelude.specs.Bytes.{byte, word}
 use Rattle.prelude.specs.Refusals.{calendar_too_long, not_a_calendar, bad_table, bad_block, refusal, refusal_at}
 use Rattle.prelude.specs.Verdicts.{and_then}
-use Rattle.prelude.specs.declared.refusals.Verdict.{Verdict}
 use Rattle.days.specs.Days.{last_day}
 use Rattle.calendar.specs.Lists.{ListWalk, list_walk_from, verdict_in}
-use Rattle.prelude.specs.declared.answers.CountAnswer.{CountAnswer}
 use Rattle.calendar.specs.File.{last_block}
+use Rattle.prelude.specs.declared.refusals.Refusal.{Refusal}
+use Rattle.prelude.specs.Verdicts.{Verdict}
 
 -- "Calendar file over 2,228,224 bytes"
 abbrev pub most_bytes : ℕ
@@ -59,10 +59,10 @@ list_end f b = list_place f b + word f (b + 8)
 
 -- "day over 43,829, or days not strictly rising": k descriptors from place p on, none of a day below low
 unfoldable pub table_from : ℕ → List ℕ → ℕ → ℕ → Verdict
-table_from zero f p low = Verdict.Fine
+table_from zero f p low = Ok tt
 table_from (suc k) f p low =
-    if_lt last_day (day_at f p) (Verdict.Refused (refusal_at bad_table p))
-    (if_lt (day_at f p) low (Verdict.Refused (refusal_at bad_table p)) (table_from k f (p + 12) (day_at f p + 1)))
+    if_lt last_day (day_at f p) (Err (refusal_at bad_table p))
+    (if_lt (day_at f p) low (Err (refusal_at bad_table p)) (table_from k f (p + 12) (day_at f p + 1)))
 
 -- the descriptor at p: "offset with its high bit set or inside head or table; block past the end; block's day, 0 or 1 wrong"
 unfoldable pub block_ok : List ℕ → ℕ → Bool
@@ -82,22 +82,22 @@ list_of f p = list_walk_from f (list_end f (block_at f p)) 0 (list_place f (bloc
 
 -- a day: 23 at its descriptor, then 24
 unfoldable pub day_verdict : List ℕ → ℕ → Verdict
-day_verdict f p = if_b (block_ok f p) (verdict_in (list_of f p)) (Verdict.Refused (refusal_at bad_block p))
+day_verdict f p = if_b (block_ok f p) (verdict_in (list_of f p)) (Err (refusal_at bad_block p))
 
 -- "then each day 23 and 24": k descriptors from place p on
 unfoldable pub days_from : ℕ → List ℕ → ℕ → Verdict
-days_from zero f p = Verdict.Fine
+days_from zero f p = Ok tt
 days_from (suc k) f p = and_then (day_verdict f p) (days_from k f (p + 12))
 
-unfoldable pub calendar_answered : ℕ → Verdict → CountAnswer
-calendar_answered n Verdict.Fine = CountAnswer.Count n
-calendar_answered n (Verdict.Refused e) = CountAnswer.Refused e
+unfoldable pub calendar_answered : ℕ → Verdict → Result ℕ Refusal
+calendar_answered n (Ok tt) = Ok n
+calendar_answered n (Err e) = Err e
 
 -- the whole file; "the descriptor, or 64 for the table"
-unfoldable pub calendar_of : List ℕ → CountAnswer
+unfoldable pub calendar_of : List ℕ → Result ℕ Refusal
 calendar_of f =
-    if_lt most_bytes (length f) (CountAnswer.Refused (refusal calendar_too_long))
+    if_lt most_bytes (length f) (Err (refusal calendar_too_long))
     (if_b (calendar_identified f)
-    (if_lt (length f) (table_end f) (CountAnswer.Refused (refusal_at bad_table 64))
+    (if_lt (length f) (table_end f) (Err (refusal_at bad_table 64))
     (calendar_answered (count_of f) (and_then (table_from (count_of f) f 64 0) (days_from (count_of f) f 64))))
-    (CountAnswer.Refused (refusal not_a_calendar)))
+    (Err (refusal not_a_calendar)))

@@ -5,9 +5,9 @@ ghost use Rattle.calendar.specs.Shown.{shown_at, appointment_among};
 ghost use Rattle.calendar.specs.Invariants.{AppointmentIn, FineList};
 
 use crate::lists::size_at;
-use crate::types::{AppointmentAnswer, StoredAppointment};
+use crate::types::{Span, StoredAppointment};
 use days::types::Minute;
-use prelude::numbers::wide;
+use prelude::refusals::Refusal;
 use prelude::refused::NO_SUCH_NUMBER;
 use prelude::slices::{Stretch, word_in};
 
@@ -17,7 +17,7 @@ fn shown_at(file: &[u8], at: usize) -> StoredAppointment
     ensures { result ≡ shown_at file.now at }
 {
     let minute = word_in(file, at + 2);
-    let flags = wide(file[at + 1]);
+    let flags = u16::from(file[at + 1]);
     let size = size_at(file, at);
     StoredAppointment {
         minute: Minute(minute),
@@ -30,13 +30,14 @@ fn shown_at(file: &[u8], at: usize) -> StoredAppointment
 }
 
 // How many appointments a list has.
-pub fn count_list(file: &[u8], from: usize, end: usize) -> usize
-    requires { FineList file.now end from }
-    ensures { result ≡ length (places_in_list (list_walk_from file.now end 0 from)) }
+// Kept: this walk and the next count by hand: an iterator of its own with `count` and `nth` is longer than the two loops. File and span stand apart here and in lists: the walk asks of places of the file.
+pub fn count_list(file: &[u8], span: Span) -> usize
+    requires { FineList file.now span.end span.from }
+    ensures { result ≡ length (places_in_list (list_walk_from file.now span.end 0 span.from)) }
 {
     let mut n: usize = 0;
-    let mut at = from;
-    while at < end {
+    let mut at = span.from;
+    while at < span.end {
         at += size_at(file, at);
         n += 1;
     }
@@ -44,18 +45,18 @@ pub fn count_list(file: &[u8], from: usize, end: usize) -> usize
 }
 
 // The k-th appointment of a list, or 10.
-pub fn appointment_in(file: &[u8], from: usize, end: usize, k: usize) -> AppointmentAnswer
-    requires { FineList file.now end from }
-    ensures { result ≡ appointment_among file.now k (places_in_list (list_walk_from file.now end 0 from)) }
+pub fn appointment_in(file: &[u8], span: Span, k: usize) -> Result<StoredAppointment, Refusal>
+    requires { FineList file.now span.end span.from }
+    ensures { result ≡ appointment_among file.now k (places_in_list (list_walk_from file.now span.end 0 span.from)) }
 {
     let mut i: usize = 0;
-    let mut at = from;
-    while at < end {
+    let mut at = span.from;
+    while at < span.end {
         if i == k {
-            return AppointmentAnswer::Appointment(shown_at(file, at));
+            return Ok(shown_at(file, at));
         }
         at += size_at(file, at);
         i += 1;
     }
-    AppointmentAnswer::Refused(NO_SUCH_NUMBER)
+    Err(NO_SUCH_NUMBER)
 }

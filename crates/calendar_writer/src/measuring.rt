@@ -1,7 +1,6 @@
 // The measure of an export, from the sums of its days: all that is decided before the first byte is written.
-ghost use Rattle.std.specs.Prelude.{◌≡◌, true, false, ◌*◌, ◌≤◌, length};
-ghost use Rattle.prelude.specs.Choice.{if_lt};
-ghost use Rattle.calendar.specs.File.{first_unit, last_block};
+ghost use Rattle.std.specs.Prelude.{◌≡◌, ◌*◌, ◌≤◌, length};
+ghost use Rattle.calendar.specs.File.{first_unit};
 ghost use Rattle.calendar_writer.specs.Sums.{units_for, most_units, measured, sum_up};
 ghost use Rattle.calendar_writer.specs.DayLists.{most_days};
 
@@ -24,15 +23,6 @@ pub fn first_unit(n: usize) -> usize
     1 + (12 * n + 63) / 64
 }
 
-fn is_past_last(unit: usize) -> bool
-    ensures { result ≡ if_lt last_block unit true false }
-{
-    if LAST_BLOCK < unit {
-        return true;
-    }
-    false
-}
-
 fn measure_of(n: usize, units: usize, last: usize, appointments: usize) -> Measure
     requires n_le_most_days { n ≤ most_days }
     requires units_bound { units ≤ most_days * most_units }
@@ -44,7 +34,7 @@ fn measure_of(n: usize, units: usize, last: usize, appointments: usize) -> Measu
         length: 64 * (first + units),
         descriptors: n,
         appointments,
-        past_last_block: is_past_last(first + last),
+        past_last_block: LAST_BLOCK < first + last,
     }
 }
 
@@ -57,10 +47,7 @@ pub fn measure(sums: &[u64]) -> Measure
     let mut units: usize = 0;
     let mut last: usize = 0;
     let mut appointments: usize = 0;
-    let mut k: usize = 0;
-    while k < sums.len() {
-        let sum = sums[k];
-        k += 1;
+    for &sum in sums {
         if sum != 0 {
             n += 1;
             last = units;

@@ -8,6 +8,7 @@ use crate::puts::put_blank;
 
 // The blocks of the days from the first on, and the place of each day's first appointment.
 // A day is a number in a span here: first + k is the day of the k-th sum.
+// Kept: sums and places are two lent slices of numbers, as long as each other: `measure` takes the one and `put_hits` the other.
 pub fn put_blanks(
     out: &mut [u8],
     at: usize,
@@ -22,12 +23,9 @@ pub fn put_blanks(
     ensures put { FilledBlocks out.old at first sums.now none_yet places.new out.new }
 {
     let mut pos = at;
-    let mut k: usize = 0;
-    while k < sums.len() {
-        let sum = sums[k];
+    for (k, &sum) in sums.iter().enumerate() {
         places[k] = pos + 10;
         pos = put_blank(out, pos, first + k, sum);
-        k += 1;
     }
     pos
 }

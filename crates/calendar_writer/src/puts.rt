@@ -1,4 +1,5 @@
 // Putting the pieces of a Calendar file into a lent buffer, whose room was tested before. Each put returns the place after what it wrote.
+// Kept: (out, at) and the room that is asked, in each contract: the clauses `put` and `next` say the lent bytes by `splice`, of one call.
 ghost use Rattle.std.specs.Prelude.{◌≡◌, [], ◌+◌, ◌≤◌, length};
 ghost use Rattle.prelude.specs.Splice.{splice};
 ghost use Rattle.days.specs.Days.{last_day};
@@ -19,12 +20,8 @@ pub fn put_zeros(out: &mut [u8], at: usize, n: usize) -> usize
     ensures next { result ≡ at + length (zeros n) }
     ensures put { out.new ≡ splice out.old at (zeros n) }
 {
-    let mut j: usize = 0;
-    while j < n {
-        out[at + j] = 0;
-        j += 1;
-    }
-    at + j
+    out[at..at + n].fill(0);
+    at + n
 }
 
 pub fn put_head(out: &mut [u8], at: usize, s: CalendarSettings, n: usize) -> usize
@@ -59,13 +56,9 @@ pub fn put_table(out: &mut [u8], at: usize, first: usize, sums: &[u64], unit: us
 {
     let mut pos = at;
     let mut u = unit;
-    let mut k: usize = 0;
-    while k < sums.len() {
-        let sum = sums[k];
-        let day = first + k;
-        k += 1;
+    for (k, &sum) in sums.iter().enumerate() {
         if sum != 0 {
-            pos = put_descriptor(out, pos, day, alarms_in(sum), u);
+            pos = put_descriptor(out, pos, first + k, alarms_in(sum), u);
             u += units_for(sum);
         }
     }

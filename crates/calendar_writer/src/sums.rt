@@ -1,4 +1,5 @@
 // A day's appointments as one sum, `sum_of`: their number, their alarms and their bytes. The weights of its appointments make it up.
+// Kept: three numbers packed in a u64: the clauses of `measure` (`sum_up`) and `put_table` (`sum_table`) are on slices of u64.
 ghost use Rattle.std.specs.Prelude.{◌≡◌, ◌≤◌};
 ghost use Rattle.texts.specs.Notes.{most_text};
 ghost use Rattle.calendar_writer.specs.Sums.{count_in, alarms_in, bytes_in, weight_of};
@@ -29,8 +30,5 @@ pub fn weight_of(alarm: bool, length: usize) -> u64
     requires { length ≤ most_text }
     ensures { result ≡ weight_of alarm length }
 {
-    if alarm {
-        return 4294967296 + 65536 + (5 + length as u64);
-    }
-    4294967296 + (5 + length as u64)
+    4294967296 + 65536 * u64::from(alarm) + (5 + length as u64)
 }

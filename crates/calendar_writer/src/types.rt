@@ -1,9 +1,9 @@
 // What measuring an export gives.
 
-// The days of a span, as a length and as a count.
-pub const MOST_DAYS: usize = 366;
-
+// The days of a span, as a count and as a length.
 pub const MOST_COUNT: u16 = 366;
+
+pub const MOST_DAYS: usize = MOST_COUNT as usize;
 
 // The file's length, its descriptors and its appointments, and whether a block would start at block 32,768 or later.
 #[derive(Clone, Copy)]

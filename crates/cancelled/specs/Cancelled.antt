@@ -1,17 +1,18 @@
 -- The list of cancelled days that a caller lends beside a book: document 02, R-9.
 -- Assumes nothing.
-use Rattle.std.specs.Prelude.{ℕ, suc, ◌+◌, ◌-◌, ◌*◌, ◌/◌, ◌%◌, Bool, true, false, List, [], ◌∷◌, length, get_or, take}
+use Rattle.std.specs.Prelude.{Result, Ok, Err, ℕ, suc, ◌+◌, ◌-◌, ◌*◌, ◌/◌, ◌%◌, Bool, true, false, List, [], ◌∷◌, length, get_or, take}
 use Rattle.prelude.specs.Choice.{if_lt, if_eq, if_b}
 use Rattle.prelude.specs.Refusals.{bad_cancelled}
 use Rattle.prelude.specs.Verdicts.{unless_bad, in_turn}
-use Rattle.prelude.specs.declared.refusals.Verdict.{Verdict}
 use Rattle.days.specs.Days.{last_day}
 use Rattle.days.specs.Facts.{facts_of}
 use Rattle.records.specs.declared.types.Record.{Record}
 use Rattle.book.specs.Books.{book_of, entry_at, places_of}
-use Rattle.book.specs.declared.types.BookAnswer.{BookAnswer}
 use Rattle.falls.specs.Falls.{falls}
 use Rattle.falls.specs.declared.types.ShortMonth.{ShortMonth}
+use Rattle.prelude.specs.declared.refusals.Refusal.{Refusal}
+use Rattle.book.specs.declared.types.Book.{Book}
+use Rattle.prelude.specs.Verdicts.{Verdict}
 
 -- An entry, "the number of a record .. and a day", is one number; "rising by number and then day" is then rising (`code_rises`).
 abbrev pub cancelled_code : ℕ → ℕ → ℕ
@@ -69,14 +70,14 @@ unfoldable pub list_verdict : List ℕ → List ℕ → Verdict
 list_verdict f list = in_turn (entry_verdict f list) (length list) 0
 
 -- "straight after that book's own refusals"
-unfoldable pub with_verdict : BookAnswer → Verdict → BookAnswer
-with_verdict b Verdict.Fine = b
-with_verdict b (Verdict.Refused e) = BookAnswer.Refused e
+unfoldable pub with_verdict : Result Book Refusal → Verdict → Result Book Refusal
+with_verdict b (Ok tt) = b
+with_verdict b (Err e) = Err e
 
-unfoldable pub after_book : List ℕ → List ℕ → BookAnswer → BookAnswer
-after_book f list (BookAnswer.Accepted b) = with_verdict (BookAnswer.Accepted b) (list_verdict f list)
-after_book f list (BookAnswer.Refused e) = BookAnswer.Refused e
+unfoldable pub after_book : List ℕ → List ℕ → Result Book Refusal → Result Book Refusal
+after_book f list (Ok b) = with_verdict (Ok b) (list_verdict f list)
+after_book f list (Err e) = Err e
 
 -- a book with its list
-unfoldable pub book_with : List ℕ → List ℕ → BookAnswer
+unfoldable pub book_with : List ℕ → List ℕ → Result Book Refusal
 book_with f list = after_book f list (book_of f)

@@ -1,12 +1,12 @@
 -- HP 200LX day chains, request R-2 and source document 004: the Single Occurrence Table and the chains of records.
 -- Assumes nothing.
-use Rattle.std.specs.Prelude.{ℕ, zero, suc, ◌+◌, ◌-◌, ◌*◌, ◌/◌, Bool, true, false, List, [], ◌∷◌, length, get_or}
+use Rattle.std.specs.Prelude.{Result, Ok, Err, ℕ, zero, suc, ◌+◌, ◌-◌, ◌*◌, ◌/◌, Bool, true, false, List, [], ◌∷◌, length, get_or}
 use Rattle.prelude.specs.Choice.{if_lt, if_eq, if_b}
 use Rattle.prelude.specs.Bytes.{byte, word}
 use Rattle.prelude.specs.Refusals.{bad_arrays, bad_day_table, bad_chain, bad_chain_order}
 use Rattle.prelude.specs.Verdicts.{refused, unless_bad, and_then, in_turn}
-use Rattle.prelude.specs.declared.refusals.Verdict.{Verdict}
-use Rattle.prelude.specs.declared.answers.CountAnswer.{CountAnswer}
+use Rattle.prelude.specs.declared.refusals.Refusal.{Refusal}
+use Rattle.prelude.specs.Verdicts.{Verdict}
 
 -- "65,535 for none"
 abbrev pub no_record : ℕ
@@ -79,7 +79,7 @@ next_bad previous next r =
 
 -- along a chain
 unfoldable pub linked : List ℕ → List ℕ → List ℕ → Verdict
-linked previous next [] = Verdict.Fine
+linked previous next [] = Ok tt
 linked previous next (r ∷ rs) = if_b (next_bad previous next r) (refused bad_chain r) (linked previous next rs)
 
 -- "with a kind over 2, an appointment minute over 1,439"
@@ -92,7 +92,7 @@ misplaced k m l n = if_lt l k true (if_eq k 1 (if_eq l 1 (if_lt n m true false) 
 
 -- "33 the first reached record with a kind over 2, an appointment minute over 1,439, or out of order": after record q
 unfoldable pub ordered_after : List ℕ → List ℕ → ℕ → List ℕ → Verdict
-ordered_after kind minute q [] = Verdict.Fine
+ordered_after kind minute q [] = Ok tt
 ordered_after kind minute q (r ∷ rs) =
     if_b (values_bad (field_of kind r) (field_of minute r)) (refused bad_chain_order r)
     (if_b (misplaced (field_of kind q) (field_of minute q) (field_of kind r) (field_of minute r)) (refused bad_chain_order r)
@@ -100,7 +100,7 @@ ordered_after kind minute q (r ∷ rs) =
 
 -- along a chain, whose first record follows none
 unfoldable pub ordered : List ℕ → List ℕ → List ℕ → Verdict
-ordered kind minute [] = Verdict.Fine
+ordered kind minute [] = Ok tt
 ordered kind minute (r ∷ rs) =
     if_b (values_bad (field_of kind r) (field_of minute r)) (refused bad_chain_order r) (ordered_after kind minute r rs)
 
@@ -132,10 +132,10 @@ chains_verdict t previous next kind minute =
     (if_eq (entries t) 0 (refused bad_day_table 0) (chains_judged t previous next kind minute))
     (refused bad_arrays 0)
 
-unfoldable pub chains_answered : ℕ → Verdict → CountAnswer
-chains_answered n Verdict.Fine = CountAnswer.Count n
-chains_answered n (Verdict.Refused e) = CountAnswer.Refused e
+unfoldable pub chains_answered : ℕ → Verdict → Result ℕ Refusal
+chains_answered n (Ok tt) = Ok n
+chains_answered n (Err e) = Err e
 
 -- accepted: the number of days
-unfoldable pub chains_answer : List ℕ → List ℕ → List ℕ → List ℕ → List ℕ → CountAnswer
+unfoldable pub chains_answer : List ℕ → List ℕ → List ℕ → List ℕ → List ℕ → Result ℕ Refusal
 chains_answer t previous next kind minute = chains_answered (days t) (chains_verdict t previous next kind minute)

@@ -1,9 +1,9 @@
 -- What R-2 asks to be shown: "accepted chains share no record and .. each walk ends within the number of records".
 -- Assumes nothing.
-use Rattle.std.specs.Prelude.{ℕ, zero, suc, ◌<◌, ◌≡◌, length}
+use Rattle.std.specs.Prelude.{Result, Ok, ℕ, zero, suc, ◌<◌, ◌≡◌, length}
 use mathlib.Core.List.{List, [], ◌∷◌, Memᴰ}
 use Rattle.chains.specs.Chains.{field_of, no_record, head_at, days, walk, chain_at}
-use Rattle.prelude.specs.declared.answers.CountAnswer.{CountAnswer}
+use Rattle.prelude.specs.declared.refusals.Refusal.{Refusal}
 
 -- the record that is j steps on from r
 unfoldable pub after : List ℕ → ℕ → ℕ → ℕ
@@ -29,5 +29,5 @@ pub record Shown (t next : List ℕ) : Type 0 where
   pub ends : (i : ℕ) → i < days t → Ends next (head_at t i) (length next)
 
 -- what an answer that accepts says
-abbrev pub Promised : List ℕ → List ℕ → CountAnswer → Type 0
-Promised t next answer = (n : ℕ) → answer ≡ CountAnswer.Count n → Shown t next
+abbrev pub Promised : List ℕ → List ℕ → Result ℕ Refusal → Type 0
+Promised t next answer = (n : ℕ) → answer ≡ Ok n → Shown t next

@@ -1,10 +1,9 @@
 -- What is known after stages of the judgement: sizes; all stages passed; heads that are records; links by which every chain ends.
 -- Assumes nothing.
-use Rattle.std.specs.Prelude.{ℕ, ◌<◌, ◌≤◌, ◌≡◌, false, length}
+use Rattle.std.specs.Prelude.{Ok, ℕ, ◌<◌, ◌≤◌, ◌≡◌, false, length}
 use mathlib.Core.List.{List, [], Memᴰ}
 use Rattle.prelude.specs.Choice.{if_lt}
 use Rattle.prelude.specs.Verdicts.{in_turn}
-use Rattle.prelude.specs.declared.refusals.Verdict.{Verdict}
 use Rattle.chains.specs.Chains.{field_of, most_chain_records, entries, days, head_at, head_bad, walk, chain_at, next_bad, entry_verdict, head_verdict, links_verdict, order_verdict}
 use Rattle.chains.specs.Shown.{after}
 
@@ -19,10 +18,10 @@ pub record EqualLengths (previous next kind minute : List ℕ) : Type 0 where
 pub record Passed (t previous next kind minute : List ℕ) : Type 0 where
   pub sizes : EqualLengths previous next kind minute
   pub some : 0 < entries t
-  pub entry-fine : in_turn (entry_verdict t) (entries t) 0 ≡ Verdict.Fine
-  pub head_fine : in_turn (head_verdict t previous) (days t) 0 ≡ Verdict.Fine
-  pub links-fine : in_turn (links_verdict t previous next) (days t) 0 ≡ Verdict.Fine
-  pub order-fine : in_turn (order_verdict t next kind minute) (days t) 0 ≡ Verdict.Fine
+  pub entry-fine : in_turn (entry_verdict t) (entries t) 0 ≡ Ok tt
+  pub head_fine : in_turn (head_verdict t previous) (days t) 0 ≡ Ok tt
+  pub links-fine : in_turn (links_verdict t previous next) (days t) 0 ≡ Ok tt
+  pub order-fine : in_turn (order_verdict t next kind minute) (days t) 0 ≡ Ok tt
 
 -- the heads of the first k entries are records, of which there are n
 abbrev pub HeadsIn : List ℕ → ℕ → ℕ → Type 0

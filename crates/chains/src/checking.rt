@@ -1,104 +1,49 @@
 // Checking day chains: sizes, table, heads, links, order. Linear in table and records.
-ghost use Rattle.std.specs.Prelude.{◌≡◌, ◌<◌};
-ghost use Rattle.chains.specs.Chains.{entries, sizes_ok, chains_judged, chains_verdict, chains_answer};
+ghost use Rattle.std.specs.Prelude.{◌≡◌, ℕ, ◌<◌};
+ghost use Rattle.prelude.specs.Verdicts.{Verdict, in_turn};
+ghost use Rattle.chains.specs.Chains.{chains_judged, chains_answer};
 ghost use Rattle.chains.specs.Shown.{Promised};
-ghost use Rattle.chains.specs.Stages.{EqualLengths};
 
 use crate::heads::judge_heads;
-use crate::links::judge_links;
-use crate::order::judge_order;
-use crate::table::{MOST_RECORDS, entry_count, judge_entries};
-use prelude::answers::CountAnswer;
-use prelude::refusals::{BAD_DAY_TABLE, Refusal, Verdict};
-use prelude::refused::BAD_ARRAYS;
+use crate::records::Records;
+use crate::table::Table;
+use prelude::refusals::Refusal;
 
-// Whether the arrays are equally long, at most 4,096.
-fn sizes_ok(previous: usize, next: usize, kinds: usize, minutes: usize) -> bool
-    ensures { result ≡ sizes_ok previous next kinds minutes }
+// Judges the numbers below a count, one after the other, up to the first that is refused.
+fn judge_in_turn<F: Fn(usize) -> Result<(), Refusal>>(count: usize, judge: F) -> Result<(), Refusal>
+    requires { (i : ℕ) → i < count → F.pre judge i }
+    ensures { (judged : ℕ → Verdict) → ((i : ℕ) (v : Verdict) → i < count → F.post judge i v → v ≡ judged i) → result ≡ in_turn judged count 0 }
 {
-    if next != previous {
-        return false;
+    for i in 0..count {
+        judge(i)?;
     }
-    if kinds != previous {
-        return false;
-    }
-    if minutes != previous {
-        return false;
-    }
-    if MOST_RECORDS < previous {
-        return false;
-    }
-    true
+    Ok(())
 }
 
-// A table that is not empty and its arrays: 31, 32 of the heads, 32 of the links, 33.
-fn judge_all(
-    table: &[u8],
-    count: usize,
-    previous: &[u16],
-    next: &[u16],
-    kinds: &[u16],
-    minutes: &[u16],
-) -> Verdict
-    requires count_value { (count ≡ entries table.now) × (0 < count) }
-    requires equal_lengths { EqualLengths previous.now next.now kinds.now minutes.now }
-    ensures { result ≡ chains_judged table.now previous.now next.now kinds.now minutes.now }
+// 31, 32 of the heads, 32 of the links, 33.
+fn judge(table: &Table, records: &Records) -> Result<(), Refusal>
+    ensures { result ≡ chains_judged table.now.bytes.now records.now.previous.now records.now.next.now records.now.kinds.now records.now.minutes.now }
 {
-    let days = count - 1;
-    let entries = judge_entries(table, count);
-    if let Verdict::Refused(e) = entries {
-        return Verdict::Refused(e);
-    }
-    let heads = judge_heads(table, days, previous);
-    if let Verdict::Refused(e) = heads {
-        return Verdict::Refused(e);
-    }
-    let links = judge_links(table, days, previous, next);
-    if let Verdict::Refused(e) = links {
-        return Verdict::Refused(e);
-    }
-    judge_order(table, days, next, kinds, minutes)
-}
-
-// The sizes (30), an empty table (31), and then all else.
-fn judge(
-    table: &[u8],
-    count: usize,
-    previous: &[u16],
-    next: &[u16],
-    kinds: &[u16],
-    minutes: &[u16],
-) -> Verdict
-    requires { count ≡ entries table.now }
-    ensures { result ≡ chains_verdict table.now previous.now next.now kinds.now minutes.now }
-{
-    if sizes_ok(previous.len(), next.len(), kinds.len(), minutes.len()) {
-        if count == 0 {
-            return Verdict::Refused(Refusal {
-                number: BAD_DAY_TABLE,
-                place: 0,
-            });
-        }
-        return judge_all(table, count, previous, next, kinds, minutes);
-    }
-    Verdict::Refused(BAD_ARRAYS)
+    table.judge()?;
+    judge_heads(table, records.previous)?;
+    judge_in_turn(table.days, |i| records.judge_links(table.head_at(i)))?;
+    judge_in_turn(table.days, |i| records.judge_order(table.head_at(i)))
 }
 
 // The number of days, or the refusal.
+// Kept: four arrays side by side, as `apptbook_check_chains` of the C interface is handed them.
 pub fn check_chains(
     table: &[u8],
     previous: &[u16],
     next: &[u16],
     kinds: &[u16],
     minutes: &[u16],
-) -> CountAnswer
+) -> Result<usize, Refusal>
     ensures answer { result ≡ chains_answer table.now previous.now next.now kinds.now minutes.now }
     ensures shown { Promised table.now next.now result }
 {
-    let count = entry_count(table);
-    let v = judge(table, count, previous, next, kinds, minutes);
-    match v {
-        Verdict::Fine => CountAnswer::Count(count - 1),
-        Verdict::Refused(e) => CountAnswer::Refused(e),
-    }
+    let records = Records::new(previous, next, kinds, minutes)?;
+    let table = Table::new(table)?;
+    judge(&table, &records)?;
+    Ok(table.days)
 }

@@ -5,4 +5,5 @@ pub mod checking;
 mod heads;
 mod links;
 mod order;
+mod records;
 mod table;

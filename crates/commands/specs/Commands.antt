@@ -1,7 +1,7 @@
 -- What the words of a command line ask for, document 01: "Its command line gives a day (page), or a first day and a count (export),
 -- in decimal, and may end in the word skip or last; anything else is 11"; document 02, R-3: "from now on the word must be there".
 -- Assumes nothing.
-use Rattle.std.specs.Prelude.{ℕ}
+use Rattle.std.specs.Prelude.{ℕ, Option, Some, None}
 use Rattle.prelude.specs.Choice.{if_eq}
 use Rattle.falls.specs.declared.types.ShortMonth.{ShortMonth}
 use Rattle.commands.specs.declared.types.Word.{Word}
@@ -20,6 +20,13 @@ with_choice (Word.Number n) make = Command.Unknown
 with_choice Word.Skip make = make ShortMonth.Skip
 with_choice Word.Last make = make ShortMonth.Last
 with_choice Word.Other make = Command.Unknown
+
+-- the choice that a word names
+abbrev pub choice_in : Word → Option ShortMonth
+choice_in (Word.Number n) = None
+choice_in Word.Skip = Some ShortMonth.Skip
+choice_in Word.Last = Some ShortMonth.Last
+choice_in Word.Other = None
 
 -- "a day (page)", and the word
 unfoldable pub page_words : Word → Word → Command

@@ -1,33 +1,11 @@
 // From words to a command.
 ghost use Rattle.std.specs.Prelude.{◌≡◌};
-ghost use Rattle.commands.specs.Words.{spelled, word_of};
-ghost use Rattle.commands.specs.Commands.{page_words, export_words, command_of};
+ghost use Rattle.commands.specs.Words.{word_of};
+ghost use Rattle.commands.specs.Commands.{choice_in, page_words, export_words, command_of};
 
 use crate::types::{Command, Word};
 use digits::words::{is_number, number_of};
 use falls::types::ShortMonth;
-
-// Whether a word is just these four letters.
-fn is_spelled(w: &[u8], a: u8, b: u8, c: u8, d: u8) -> bool
-    ensures { result ≡ spelled w.now a b c d }
-{
-    if w.len() == 4 {
-        if w[0] == a {
-            if w[1] == b {
-                if w[2] == c {
-                    if w[3] == d {
-                        return true;
-                    }
-                    return false;
-                }
-                return false;
-            }
-            return false;
-        }
-        return false;
-    }
-    false
-}
 
 // What a word of the command line is.
 pub fn word_of(w: &[u8]) -> Word
@@ -36,55 +14,63 @@ pub fn word_of(w: &[u8]) -> Word
     if is_number(w) {
         return Word::Number(number_of(w));
     }
-    if is_spelled(w, b's', b'k', b'i', b'p') {
-        return Word::Skip;
+    if w == b"skip".as_slice() {
+        Word::Skip
+    } else if w == b"last".as_slice() {
+        Word::Last
+    } else {
+        Word::Other
     }
-    if is_spelled(w, b'l', b'a', b's', b't') {
-        return Word::Last;
+}
+
+impl Word {
+    // The short-month choice that it names.
+    fn choice(self) -> Option<ShortMonth>
+        ensures { result ≡ choice_in self }
+    {
+        match self {
+            Word::Skip => Some(ShortMonth::Skip),
+            Word::Last => Some(ShortMonth::Last),
+            Word::Number(_) | Word::Other => None,
+        }
     }
-    Word::Other
 }
 
 fn page_words(a: Word, b: Word) -> Command
     ensures { result ≡ page_words a b }
 {
-    let Word::Number(d) = a else {
+    let Word::Number(day) = a else {
         return Command::Unknown;
     };
-    match b {
-        Word::Number(_) => Command::Unknown,
-        Word::Skip => Command::Page(d, ShortMonth::Skip),
-        Word::Last => Command::Page(d, ShortMonth::Last),
-        Word::Other => Command::Unknown,
-    }
+    let Some(choice) = b.choice() else {
+        return Command::Unknown;
+    };
+    Command::Page(day, choice)
 }
 
 fn export_words(a: Word, b: Word, c: Word) -> Command
     ensures { result ≡ export_words a b c }
 {
-    let Word::Number(d) = a else {
+    let Word::Number(first) = a else {
         return Command::Unknown;
     };
-    let Word::Number(k) = b else {
+    let Word::Number(count) = b else {
         return Command::Unknown;
     };
-    match c {
-        Word::Number(_) => Command::Unknown,
-        Word::Skip => Command::Export(d, k, ShortMonth::Skip),
-        Word::Last => Command::Export(d, k, ShortMonth::Last),
-        Word::Other => Command::Unknown,
-    }
+    let Some(choice) = c.choice() else {
+        return Command::Unknown;
+    };
+    Command::Export(first, count, choice)
 }
 
 // What n words ask for, of which the first three are handed over.
+// Kept: number and words, no slice of words, as the definition `command_of` and the clause take them.
 pub fn command_of(n: usize, a: Word, b: Word, c: Word) -> Command
     ensures { result ≡ command_of n a b c }
 {
-    if n == 2 {
-        return page_words(a, b);
+    match n {
+        2 => page_words(a, b),
+        3 => export_words(a, b, c),
+        _ => Command::Unknown,
     }
-    if n == 3 {
-        return export_words(a, b, c);
-    }
-    Command::Unknown
 }

@@ -7,16 +7,15 @@ ghost use Rattle.commands.specs.Responses.{refusal_text, page_response, export_r
 
 use crate::types::Command;
 use book::reading::read_book;
-use book::types::BookAnswer;
 use days::types::CalendarDay;
 use digits::puts::{put_byte, put_decimal};
 use export::calls::export;
 use falls::types::ShortMonth;
-use prelude::answers::CountAnswer;
 use prelude::refusals::Refusal;
 use prelude::refused::OUT_OF_RANGE;
 use printing::calls::print_page;
 
+// Kept: here and below the buffer's room in each contract, and its count as the answer: the clauses `put` and `next` say the lent bytes by `splice`, and `print_page` and `export` take the slice.
 // A refusal's text: ten digits, a space, twenty digits and 0Ah at most.
 fn put_refusal(out: &mut [u8], e: Refusal) -> usize
     requires { 32 ≤ length out.old }
@@ -36,10 +35,9 @@ fn other_response(file: &[u8], out: &mut [u8]) -> usize
     ensures put { out.new ≡ splice out.old 0 (other_response (book_of file.now)) }
     ensures within { result ≤ length out.old }
 {
-    let a = read_book(file);
-    match a {
-        BookAnswer::Accepted(_) => put_refusal(out, OUT_OF_RANGE),
-        BookAnswer::Refused(e) => put_refusal(out, e),
+    match read_book(file) {
+        Ok(_) => put_refusal(out, OUT_OF_RANGE),
+        Err(own) => put_refusal(out, own),
     }
 }
 
@@ -49,13 +47,12 @@ fn page_response(file: &[u8], d: u32, c: ShortMonth, out: &mut [u8]) -> usize
     ensures put { out.new ≡ splice out.old 0 (page_response file.now c (length out.old) (validated file.now (record { 0 = d }))) }
     ensures within { result ≤ length out.old }
 {
-    if 65535 < d {
+    let Ok(day) = u16::try_from(d) else {
         return other_response(file, out);
-    }
-    let a = print_page(file, CalendarDay(d as u16), c, out);
-    match a {
-        CountAnswer::Count(n) => n,
-        CountAnswer::Refused(e) => put_refusal(out, e),
+    };
+    match print_page(file, CalendarDay(day), c, out) {
+        Ok(n) => n,
+        Err(e) => put_refusal(out, e),
     }
 }
 
@@ -65,16 +62,15 @@ fn export_response(file: &[u8], first: u32, count: u32, c: ShortMonth, out: &mut
     ensures put { out.new ≡ splice out.old 0 (export_response file.now c (length out.old) first count) }
     ensures within { result ≤ length out.old }
 {
-    if 65535 < first {
+    let Ok(day) = u16::try_from(first) else {
         return other_response(file, out);
-    }
-    if 65535 < count {
+    };
+    let Ok(days) = u16::try_from(count) else {
         return other_response(file, out);
-    }
-    let a = export(file, CalendarDay(first as u16), count as u16, c, out);
-    match a {
-        CountAnswer::Count(n) => n,
-        CountAnswer::Refused(e) => put_refusal(out, e),
+    };
+    match export(file, CalendarDay(day), days, c, out) {
+        Ok(n) => n,
+        Err(e) => put_refusal(out, e),
     }
 }
 

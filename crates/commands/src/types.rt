@@ -5,6 +5,7 @@ use falls::types::ShortMonth;
 pub const PROGRAM_ROOM: usize = 65536;
 
 // Numbers past 65,535 are all 65,536.
+// Kept: that number for too large ones, as the definition `word_of` has it by `capped`.
 #[derive(Clone, Copy)]
 pub enum Word {
     Number(u32),

@@ -5,12 +5,14 @@ ghost use Rattle.day_steps.specs.Codes.{date_in, month_in, day_in, weekday_in, m
 
 use days::types::{Date, DayFacts};
 
+// Kept: numbers packed by hand, no struct: the clauses say what each holds, and a span's list of u32 is lent by the caller of `pack_days`.
 pub fn date_code(d: Date) -> u32
     ensures { result ≡ date_code d }
 {
-    (d.year as u32 * 16 + d.month as u32) * 32 + d.day as u32
+    (u32::from(d.year) * 16 + u32::from(d.month)) * 32 + u32::from(d.day)
 }
 
+// Kept: a function a field of a code, here and below: each has its own clause, and one with const parameters would leave the six.
 // The year in a date's code.
 pub fn year_of_code(code: u32) -> u32
     ensures { result ≡ year_of_code code }
@@ -45,7 +47,7 @@ pub fn day_code(f: DayFacts) -> u32
     requires { Known f }
     ensures { result ≡ day_code f }
 {
-    date_code(f.date) * 256 + f.weekday as u32 * 32 + f.length as u32
+    date_code(f.date) * 256 + u32::from(f.weekday) * 32 + u32::from(f.length)
 }
 
 // The date in a day's code, as a code.

@@ -1,17 +1,17 @@
 // The facts of a later day: so many days on, or a date's.
-ghost use Rattle.std.specs.Prelude.{◌≡◌, ◌+◌, ◌-◌, ◌≤◌};
+ghost use Rattle.std.specs.Prelude.{◌≡◌, ◌+◌, ◌≤◌};
 ghost use Rattle.days.specs.Days.{day_number};
 ghost use Rattle.days.specs.Facts.{facts_of};
 ghost use Rattle.days.specs.Dates.{RealDate};
 ghost use Rattle.day_steps.specs.Moves.{FactsAt, moved_to};
 
-use days::answers::DayAnswer;
 use days::dates::month_days;
 use days::facts::next_facts;
 use days::numbers::{day_of_date, weekday_of};
 use days::types::{CalendarDay, Date, DayFacts};
 
 // So many days on in the same month.
+// Kept: `FactsAt` stands in clauses here and below, not in `DayFacts`: those come from C, too (`facts_in`), where it need not hold.
 fn in_month(f: DayFacts, k: u16) -> DayFacts
     requires facts_at { FactsAt f (f.day.0 + k) }
     requires k_bound { f.date.day + k ≤ f.length }
@@ -20,21 +20,12 @@ fn in_month(f: DayFacts, k: u16) -> DayFacts
     DayFacts {
         day: CalendarDay(f.day.0 + k),
         date: Date {
-            year: f.date.year,
-            month: f.date.month,
             day: f.date.day + k,
+            ..f.date
         },
         weekday: (f.weekday + 6 + k) % 7 + 1,
         length: f.length,
     }
-}
-
-// The days that are left of the month.
-fn rest_of(f: DayFacts) -> u16
-    requires { f.date.day ≤ f.length }
-    ensures { result ≡ f.length - f.date.day }
-{
-    f.length - f.date.day
 }
 
 // So many days on, over the ends of months.
@@ -45,7 +36,7 @@ pub fn days_later(f: DayFacts, k: u16) -> DayFacts
     let mut g = f;
     let mut left = k;
     loop {
-        let rest = rest_of(g);
+        let rest = g.length - g.date.day;
         if left <= rest {
             return in_month(g, left);
         }
@@ -72,14 +63,8 @@ fn facts_at(d: Date, n: CalendarDay) -> DayFacts
 pub fn moved_to(f: DayFacts, d: Date) -> DayFacts
     ensures { result ≡ moved_to f d }
 {
-    let a = day_of_date(d);
-    match a {
-        DayAnswer::Day(n) => {
-            if f.day.0 < n.0 {
-                return facts_at(d, n);
-            }
-            f
-        }
-        DayAnswer::Refused(_) => f,
-    }
+    let Ok(n) = day_of_date(d) else {
+        return f;
+    };
+    if f.day < n { facts_at(d, n) } else { f }
 }

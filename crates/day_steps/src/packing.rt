@@ -15,10 +15,8 @@ pub fn pack_days(f: DayFacts, days: &mut [u32])
     ensures { Spanned f.day.0 days.new }
 {
     let mut g = f;
-    let mut k = 0;
-    while k < days.len() {
-        days[k] = day_code(g);
+    for day in days {
+        *day = day_code(g);
         g = next_facts(g);
-        k += 1;
     }
 }

@@ -1,7 +1,6 @@
 // Day arithmetic, document 01 "Days": the layer under the file layers, which know it only by its contracts and laws.
 #![tactic(auto)]
 
-pub mod answers;
 pub mod dates;
 pub mod facts;
 pub mod numbers;

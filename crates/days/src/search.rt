@@ -3,9 +3,9 @@
 ghost use Rattle.std.specs.Prelude.{◌≡◌, ◌+◌, ◌≤◌};
 ghost use Rattle.days.specs.Days.{last_day};
 ghost use Rattle.days.specs.Halving.{Found, Narrowed, NarrowedByFive};
-ghost use Rattle.days.specs.Table.{Starts, StartsFrom};
+ghost use Rattle.days.specs.Table.{StartsFrom};
 
-use crate::table::table;
+use crate::table::{MonthStarts, table};
 
 // A month, counted from January 1980 = 0, and the day on which it starts.
 #[derive(Clone, Copy)]
@@ -21,64 +21,62 @@ struct Rest {
     starts: [u16; 45],
 }
 
-fn rest_from(t: &[u16; 1440], first: usize) -> Rest
-    requires starts { Starts t.now }
-    requires first_bound { first + 45 ≤ 1440 }
+fn rest_from(t: &MonthStarts, first: usize) -> Rest
+    requires { first + 45 ≤ 1440 }
     ensures { (result.first ≡ first) × StartsFrom first 45 result.starts }
 {
-    let mut starts = [0u16; 45];
-    let mut k: usize = 0;
-    while k < 45 {
-        starts[k] = t[first + k];
-        k += 1;
+    let mut starts = [0; 45];
+    // Kept: with `copy_from_slice` the whole table goes to the stack, and a date takes 3,450 instructions in place of 99, measured in a probe of 1,000 calls.
+    for (k, start) in starts.iter_mut().enumerate() {
+        *start = t.days[first + k];
     }
     Rest { first, starts }
 }
 
 // The fourth halving and the fifth, of the 180 months from month `first` on.
-fn rest_of_180(t: &[u16; 1440], first: usize, n: u16) -> Rest
-    requires starts { Starts t.now }
-    requires narrowed { Narrowed n 3 first 180 }
+fn rest_of_180(t: &MonthStarts, first: usize, n: u16) -> Rest
+    requires { Narrowed n 3 first 180 }
     ensures { NarrowedByFive n result.first result.starts }
 {
-    if n < t[first + 90] {
-        if n < t[first + 45] {
+    if n < t.days[first + 90] {
+        if n < t.days[first + 45] {
             return rest_from(t, first);
         }
         return rest_from(t, first + 45);
     }
     let upper = first + 90;
-    if n < t[upper + 45] {
+    if n < t.days[upper + 45] {
         return rest_from(t, upper);
     }
     rest_from(t, upper + 45)
 }
 
 // The first three halvings, and then those two.
+// Kept: a loop reads places that are not fixed, and the whole table would go to the stack (docs/PROOFS.md, "Speed").
 fn rest_of(n: u16) -> Rest
     requires { n ≤ last_day }
     ensures { NarrowedByFive n result.first result.starts }
 {
     let t = table();
-    if n < t[720] {
-        if n < t[360] {
-            if n < t[180] {
+    if n < t.days[720] {
+        if n < t.days[360] {
+            if n < t.days[180] {
                 return rest_of_180(&t, 0, n);
             }
             return rest_of_180(&t, 180, n);
         }
-        if n < t[540] {
+        if n < t.days[540] {
             return rest_of_180(&t, 360, n);
         }
         return rest_of_180(&t, 540, n);
     }
-    if n < t[1080] {
-        if n < t[900] {
+    if n < t.days[1080] {
+        if n < t.days[900] {
             return rest_of_180(&t, 720, n);
         }
         return rest_of_180(&t, 900, n);
     }
-    if n < t[1260] {
+    if n < t.days[1260] {
         return rest_of_180(&t, 1080, n);
     }
     rest_of_180(&t, 1260, n)
@@ -93,9 +91,9 @@ pub fn month_of(n: u16) -> Month
     let starts = rest.starts;
     let mut low: usize = 0;
     let mut left: usize = 45;
-    let mut k: usize = 5;
-    while k < 11 {
-        k += 1;
+    // k halvings lie behind: the proof's invariant names it.
+    // Kept: halved by hand, no `partition_point`: request R-5 asks for eleven halvings (law `eleven_halvings`, edit `ten_halvings`).
+    for k in 5..11usize {
         let half = left / 2;
         left -= half;
         if starts[low + half] <= n {

@@ -110,9 +110,14 @@ const STARTS: [u16; 1440] = [
     43585, 43616, 43646, 43677, 43708, 43738, 43769, 43799,
 ];
 
-// The month starts. A constant is built anew at each use, but for what is read of it at fixed places alone, as `search` does.
-pub fn table() -> [u16; 1440]
-    ensures { Starts result }
-{
-    STARTS
+// The month starts, by that rule.
+#[derive(Clone, Copy)]
+pub struct MonthStarts {
+    pub days: [u16; 1440],
+    ghost right: { Starts days },
+}
+
+// A constant is built anew at each use, but for what is read of it at fixed places alone, as `search` does.
+pub fn table() -> MonthStarts {
+    MonthStarts { days: STARTS }
 }

@@ -4,6 +4,7 @@ ghost use Rattle.prelude.specs.Splice.{splice};
 ghost use Rattle.digits.specs.Digits.{two, four, decimal};
 
 // One byte as it is.
+// Kept: buffer, place and room apart here and below, and no `Display`, since the clauses `put` and `next` say the lent buffer's bytes by `splice`.
 pub fn put_byte(out: &mut [u8], at: usize, b: u8) -> usize
     requires { at + length (b ∷ []) ≤ length out.old }
     ensures next { result ≡ at + length (b ∷ []) }
@@ -19,8 +20,8 @@ pub fn put_two(out: &mut [u8], at: usize, n: u16) -> usize
     ensures next { result ≡ at + length (two n) }
     ensures put { out.new ≡ splice out.old at (two n) }
 {
-    out[at] = (48 + n / 10 % 10) as u8;
-    out[at + 1] = (48 + n % 10) as u8;
+    out[at] = b'0' + (n / 10 % 10) as u8;
+    out[at + 1] = b'0' + (n % 10) as u8;
     at + 2
 }
 
@@ -55,14 +56,11 @@ pub fn put_decimal(out: &mut [u8], at: usize, n: usize) -> usize
     ensures put { out.new ≡ splice out.old at (decimal n) }
 {
     let end = at + decimal_length(n);
-    let mut i = end;
     let mut left = n;
-    while 9 < left {
-        let tenth = left / 10;
-        i -= 1;
-        out[i] = (48 + (left - 10 * tenth)) as u8;
-        left = tenth;
+    for i in (at + 1..end).rev() {
+        out[i] = b'0' + (left % 10) as u8;
+        left /= 10;
     }
-    out[at] = (48 + left) as u8;
+    out[at] = b'0' + left as u8;
     end
 }

@@ -6,42 +6,27 @@ ghost use Rattle.digits.specs.Digits.{value, is_number, capped};
 pub fn is_number(w: &[u8]) -> bool
     ensures { result ≡ is_number w.now }
 {
-    if w.len() == 0 {
-        return false;
-    }
-    let mut i = 0;
-    while i < w.len() {
-        let b = w[i];
-        if b < 48 {
-            return false;
-        }
-        if 57 < b {
-            return false;
-        }
-        i += 1;
-    }
-    true
+    !w.is_empty() && w.iter().all(|b| b.is_ascii_digit())
 }
 
 // What a byte counts in a number; of any byte what it has above 48.
 fn digit_of(b: u8) -> u32
     ensures { result ≡ b - 48 }
 {
-    if b < 48 { 0 } else { (b - 48) as u32 }
+    u32::from(b.saturating_sub(b'0'))
 }
 
 // The value of a word, 65,536 for all that are larger.
+// Kept: by hand, no `parse`, and that number for too large ones: a word may have any number of digits, and the clause has `capped`.
 pub fn number_of(w: &[u8]) -> u32
     ensures { result ≡ capped (value w.now) }
 {
     let mut v: u32 = 0;
-    let mut i = 0;
-    while i < w.len() {
-        v = 10 * v + digit_of(w[i]);
+    for b in w {
+        v = 10 * v + digit_of(*b);
         if 65535 < v {
             return 65536;
         }
-        i += 1;
     }
     v
 }

@@ -2,7 +2,7 @@
 -- What shows on a day is any test; document 01's own is `shows_under` a short-month choice. `Theorem` proves it.
 -- Stated by the book, its pages, the Calendar reader and plain sums; of the export it names the answer alone, of the Calendar writer nothing.
 -- Assumes nothing.
-use Rattle.std.specs.Prelude.{ℕ, zero, suc, ◌+◌, ◌*◌, ◌/◌, ◌%◌, ◌<◌, ◌≤◌, ◌≡◌, Bool, List, [], ◌∷◌, map, eqb, length, take}
+use Rattle.std.specs.Prelude.{Result, Ok, Err, ℕ, zero, suc, ◌+◌, ◌*◌, ◌/◌, ◌%◌, ◌<◌, ◌≤◌, ◌≡◌, Bool, List, [], ◌∷◌, map, eqb, length, take}
 use Rattle.prelude.specs.Choice.{if_lt}
 use Rattle.prelude.specs.Bytes.{stretch_bytes}
 use Rattle.prelude.specs.Refusals.{no_room, too_many_blocks, refusal}
@@ -10,12 +10,11 @@ use Rattle.sorting.specs.Totals.{total}
 use Rattle.days.specs.Days.{last_day}
 use Rattle.book.specs.Books.{book_of}
 use Rattle.book.specs.declared.types.Book.{Book}
-use Rattle.book.specs.declared.types.BookAnswer.{BookAnswer}
 use Rattle.pages.specs.Pages.{Numbered, record_times, start_of, page_of}
 use Rattle.calendar.specs.File.{Appointment}
 use Rattle.calendar.specs.Reader.{count_of, calendar_of}
 use Rattle.calendar.specs.Shown.{appointments_on}
-use Rattle.prelude.specs.declared.answers.CountAnswer.{CountAnswer}
+use Rattle.prelude.specs.declared.refusals.Refusal.{Refusal}
 
 -- what the two lists hold
 pub record Showing : Type 0 where
@@ -38,7 +37,7 @@ shown a = record { minute = a.minute; alarm = eqb (a.flags % 2) 1; text = a.text
 -- a Calendar file shows count days from the first on as the book's pages list them
 pub record SameDays (shows : ℕ → Numbered → Bool) (book : List ℕ) (first count : ℕ) (file : List ℕ) : Type 0 where
   -- the Calendar reader accepts it
-  pub accepted : calendar_of file ≡ CountAnswer.Count (count_of file)
+  pub accepted : calendar_of file ≡ Ok (count_of file)
   -- each day of the span shows its page
   pub inside : (d : ℕ) → first ≤ d → d < first + count → map shown (appointments_on file d) ≡ day_list shows book d
   -- any other day shows nothing
@@ -87,20 +86,20 @@ pub record StartsLate (list : ℕ → List Showing) (first count k : ℕ) : Type
   pub late : last_start < block_start list first count k
 
 -- "Its sizes are those of 12 and 13": what is answered where a span whose days have these lists is to be written to a buffer of that room
-pub record Sizes (list : ℕ → List Showing) (first count room : ℕ) (answer : CountAnswer) : Type 0 where
+pub record Sizes (list : ℕ → List Showing) (first count room : ℕ) (answer : Result ℕ Refusal) : Type 0 where
   -- 13 where a day's block would start too late
-  pub thirteen : (k : ℕ) → StartsLate list first count k → answer ≡ CountAnswer.Refused (refusal too_many_blocks)
+  pub thirteen : (k : ℕ) → StartsLate list first count k → answer ≡ Err (refusal too_many_blocks)
   -- else 12 where the buffer is shorter than the file
-  pub twelve : ((k : ℕ) → StartsLate list first count k → ⊥) → room < file_size list first count → answer ≡ CountAnswer.Refused (refusal no_room)
+  pub twelve : ((k : ℕ) → StartsLate list first count k → ⊥) → room < file_size list first count → answer ≡ Err (refusal no_room)
   -- else the file is written
-  pub written : ((k : ℕ) → StartsLate list first count k → ⊥) → file_size list first count ≤ room → answer ≡ CountAnswer.Count (file_size list first count)
+  pub written : ((k : ℕ) → StartsLate list first count k → ⊥) → file_size list first count ≤ room → answer ≡ Ok (file_size list first count)
 
 -- Demand 3 of an export that found a buffer `out`, gave `answer` and left the buffer as `left`.
-pub record Demand3 (shows : ℕ → Numbered → Bool) (book : List ℕ) (first count : ℕ) (out : List ℕ) (answer : CountAnswer) (left : List ℕ) : Type 0 where
+pub record Demand3 (shows : ℕ → Numbered → Bool) (book : List ℕ) (first count : ℕ) (out : List ℕ) (answer : Result ℕ Refusal) (left : List ℕ) : Type 0 where
   -- An accepted book and a span in range are refused exactly where one of the two sizes is passed: "a first day, a Calendar day even
   -- when the count is 0, and a count of days, 0 to 366, with first + count at most 43,830".
   pub sizes :
-      (b : Book) → book_of book ≡ BookAnswer.Accepted b → first ≤ last_day → count ≤ longest_span → first + count ≤ last_day + 1
+      (b : Book) → book_of book ≡ Ok b → first ≤ last_day → count ≤ longest_span → first + count ≤ last_day + 1
       → Sizes (day_list shows book) first count (length out) answer
   -- The bytes that were written are a Calendar file that is accepted and shows the days of the span as the pages list them, and no others.
-  pub same : (n : ℕ) → answer ≡ CountAnswer.Count n → SameDays shows book first count (take n left)
+  pub same : (n : ℕ) → answer ≡ Ok n → SameDays shows book first count (take n left)

@@ -1,7 +1,7 @@
 -- The export of a book's days as a Calendar file, document 01 "The Calendar file" and the refusals 11, 13 and 12.
 -- What a day shows is left open: `shows d x` says whether the record x shows on day d.
 -- Assumes nothing.
-use Rattle.std.specs.Prelude.{ℕ, ◌+◌, ◌%◌, Bool, true, false, List, map, length}
+use Rattle.std.specs.Prelude.{Result, Ok, Err, ℕ, ◌+◌, ◌%◌, Bool, true, false, List, map, length}
 use Rattle.prelude.specs.Choice.{if_lt, if_eq, if_b}
 use Rattle.prelude.specs.Bytes.{bit, stretch_bytes}
 use Rattle.prelude.specs.Refusals.{out_of_range, no_room, too_many_blocks, refusal}
@@ -10,14 +10,14 @@ use Rattle.days.specs.Days.{last_day}
 use Rattle.days.specs.Facts.{facts_of}
 use Rattle.book.specs.Books.{book_of}
 use Rattle.book.specs.Settings.{settings_of}
-use Rattle.book.specs.declared.types.BookAnswer.{BookAnswer}
 use Rattle.book.specs.declared.types.Settings.{Settings}
 use Rattle.falls.specs.declared.types.ShortMonth.{ShortMonth}
 use Rattle.pages.specs.Pages.{Numbered, record_times, start_of, page_of, falls_on}
 use Rattle.calendar.specs.File.{Appointment, Day, file_of}
 use Rattle.calendar.specs.declared.types.CalendarSettings.{CalendarSettings}
 use Rattle.calendar_writer.specs.DayLists.{days_with, past_last_block, most_days}
-use Rattle.prelude.specs.declared.answers.CountAnswer.{CountAnswer}
+use Rattle.prelude.specs.declared.refusals.Refusal.{Refusal}
+use Rattle.book.specs.declared.types.Book.{Book}
 
 -- "The export takes a first day, a Calendar day even when the count is 0, and a count of days, 0 to 366, with first + count at most 43,830."
 unfoldable pub span_ok : ℕ → ℕ → Bool
@@ -69,29 +69,29 @@ unfoldable pub export_file : (ℕ → Numbered → Bool) → List ℕ → ℕ �
 export_file shows f first count = file_of (settings_for (settings_of f)) (export_days shows f first count)
 
 -- 13, then "12: lent buffer shorter than the file"
-unfoldable pub sized : ℕ → Bool → ℕ → CountAnswer
+unfoldable pub sized : ℕ → Bool → ℕ → Result ℕ Refusal
 sized room past size =
-    if_b past (CountAnswer.Refused (refusal too_many_blocks))
-    (if_lt room size (CountAnswer.Refused (refusal no_room)) (CountAnswer.Count size))
+    if_b past (Err (refusal too_many_blocks))
+    (if_lt room size (Err (refusal no_room)) (Ok size))
 
 -- a span of an accepted book
-unfoldable pub span_answer : (ℕ → Numbered → Bool) → List ℕ → ℕ → ℕ → ℕ → CountAnswer
+unfoldable pub span_answer : (ℕ → Numbered → Bool) → List ℕ → ℕ → ℕ → ℕ → Result ℕ Refusal
 span_answer shows f first count room =
     sized room (past_last_block (export_days shows f first count)) (length (export_file shows f first count))
 
 -- "Calls on a book give these first, then 11, 10, 13, 12."
-unfoldable pub export_from : (ℕ → Numbered → Bool) → List ℕ → ℕ → ℕ → ℕ → BookAnswer → CountAnswer
-export_from shows f first count room (BookAnswer.Accepted b) =
-    if_b (span_ok first count) (span_answer shows f first count room) (CountAnswer.Refused (refusal out_of_range))
-export_from shows f first count room (BookAnswer.Refused e) = CountAnswer.Refused e
+unfoldable pub export_from : (ℕ → Numbered → Bool) → List ℕ → ℕ → ℕ → ℕ → Result Book Refusal → Result ℕ Refusal
+export_from shows f first count room (Ok b) =
+    if_b (span_ok first count) (span_answer shows f first count room) (Err (refusal out_of_range))
+export_from shows f first count room (Err e) = Err e
 
-unfoldable pub export_answer : (ℕ → Numbered → Bool) → List ℕ → ℕ → ℕ → ℕ → CountAnswer
+unfoldable pub export_answer : (ℕ → Numbered → Bool) → List ℕ → ℕ → ℕ → ℕ → Result ℕ Refusal
 export_answer shows f first count room = export_from shows f first count room (book_of f)
 
 -- "No lent byte changes. After success, bytes past the written length are as before."
-unfoldable pub leaves_file : List ℕ → List ℕ → CountAnswer → List ℕ
-leaves_file file out (CountAnswer.Count n) = splice out 0 file
-leaves_file file out (CountAnswer.Refused e) = out
+unfoldable pub leaves_file : List ℕ → List ℕ → Result ℕ Refusal → List ℕ
+leaves_file file out (Ok n) = splice out 0 file
+leaves_file file out (Err e) = out
 
 -- the lent buffer, which was out: after a span of an accepted book, and after any call
 unfoldable pub span_leaves : (ℕ → Numbered → Bool) → List ℕ → ℕ → ℕ → List ℕ → List ℕ

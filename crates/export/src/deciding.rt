@@ -4,33 +4,27 @@ ghost use Rattle.export.specs.Export.{span_ok, sized};
 
 use calendar_writer::types::{MOST_COUNT, Measure};
 use days::types::{DAYS, LAST_DAY};
-use prelude::answers::CountAnswer;
+use prelude::refusals::Refusal;
 use prelude::refused::{NO_ROOM, TOO_MANY_BLOCKS};
 
 pub fn span_ok(first: u16, count: u16) -> bool
     ensures { result ≡ span_ok first count }
 {
-    if LAST_DAY < first {
+    if LAST_DAY < first || MOST_COUNT < count {
         return false;
     }
-    if MOST_COUNT < count {
-        return false;
-    }
-    if DAYS < first + count {
-        return false;
-    }
-    true
+    first + count <= DAYS
 }
 
 // The answer for a file of that measure.
-pub fn answer_for(m: Measure, room: usize) -> CountAnswer
+pub fn answer_for(m: Measure, room: usize) -> Result<usize, Refusal>
     ensures { result ≡ sized room m.past_last_block m.length }
 {
     if m.past_last_block {
-        return CountAnswer::Refused(TOO_MANY_BLOCKS);
+        return Err(TOO_MANY_BLOCKS);
     }
     if room < m.length {
-        return CountAnswer::Refused(NO_ROOM);
+        return Err(NO_ROOM);
     }
-    CountAnswer::Count(m.length)
+    Ok(m.length)
 }

@@ -8,5 +8,6 @@ mod filling;
 mod requests;
 mod scattering;
 mod settings;
+mod spans;
 mod working;
 mod writing;

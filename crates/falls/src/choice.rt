@@ -9,3 +9,11 @@ pub fn default_choice() -> ShortMonth
 {
     ShortMonth::Last
 }
+
+impl Default for ShortMonth {
+    ghost is_default = { λ c. c ≡ default_choice };
+
+    fn default() -> ShortMonth {
+        default_choice()
+    }
+}

@@ -2,14 +2,14 @@
 use days::types::Minute;
 
 // Document 01 "short-month choice": what becomes of a day that its month does not have.
-#[derive(Clone, Copy)]
+#[derive(Clone, Copy, PartialEq, Eq, Debug)]
 pub enum ShortMonth {
     Skip,
     Last,
 }
 
 // Document 02, R-7: whether a record falls on a day: not, on its own day, or moved to the month's last day.
-#[derive(Clone, Copy)]
+#[derive(Clone, Copy, PartialEq, Eq, Debug)]
 pub enum Falling {
     No,
     Own,

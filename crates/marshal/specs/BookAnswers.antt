@@ -1,14 +1,15 @@
 -- Books and the lines of notes across C: number 0 and the values, or the refusal with every value 0.
 -- Assumes nothing.
-use Rattle.std.specs.Prelude.{false}
+use Rattle.std.specs.Prelude.{Result, Ok, Err, false}
 use Rattle.book.specs.declared.types.Settings.{Settings}
-use Rattle.book.specs.declared.types.BookAnswer.{BookAnswer}
-use Rattle.book.specs.declared.types.StretchAnswer.{StretchAnswer}
 use Rattle.marshal.specs.declared.book_answers.BookOut.{BookOut}
 use Rattle.marshal.specs.declared.book_answers.LineOut.{LineOut}
+use Rattle.prelude.specs.declared.refusals.Refusal.{Refusal}
+use Rattle.book.specs.declared.types.Book.{Book}
+use Rattle.prelude.specs.declared.slices.Stretch.{Stretch}
 
-unfoldable pub book_out : BookAnswer → BookOut
-book_out (BookAnswer.Accepted b) =
+unfoldable pub book_out : Result Book Refusal → BookOut
+book_out (Ok b) =
     record {
       number = 0;
       place = 0;
@@ -19,7 +20,7 @@ book_out (BookAnswer.Accepted b) =
       alarm = b.settings.alarm;
       carry_forward = b.settings.carry_forward;
     }
-book_out (BookAnswer.Refused e) =
+book_out (Err e) =
     record {
       number = e.number;
       place = e.place;
@@ -31,9 +32,9 @@ book_out (BookAnswer.Refused e) =
       carry_forward = false;
     }
 
-unfoldable pub line_out : StretchAnswer → LineOut
-line_out (StretchAnswer.Stretch s) = record { number = 0; place = 0; at = s.place; length = s.length }
-line_out (StretchAnswer.Refused e) = record { number = e.number; place = e.place; at = 0; length = 0 }
+unfoldable pub line_out : Result Stretch Refusal → LineOut
+line_out (Ok s) = record { number = 0; place = 0; at = s.place; length = s.length }
+line_out (Err e) = record { number = e.number; place = e.place; at = 0; length = 0 }
 
 -- the settings that a caller handed over, as a book's answer has them
 abbrev pub settings_in : BookOut → Settings

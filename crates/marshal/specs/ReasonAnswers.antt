@@ -1,13 +1,13 @@
 -- Why a record is on a day or not, across C: number 0 and the reason, or the refusal with reason 0.
 -- Assumes nothing.
-use Rattle.std.specs.Prelude.{ℕ, ◌≡◌, List}
+use Rattle.std.specs.Prelude.{Result, Ok, Err, ℕ, ◌≡◌, List}
 use Rattle.days.specs.Facts.{facts_of}
 use Rattle.days.specs.declared.types.CalendarDay.{CalendarDay}
 use Rattle.falls.specs.declared.types.ShortMonth.{ShortMonth}
 use Rattle.reasons.specs.Holds.{Explained}
 use Rattle.reasons.specs.declared.types.Reason.{Reason}
-use Rattle.reasons.specs.declared.types.ReasonAnswer.{ReasonAnswer}
 use Rattle.marshal.specs.declared.reason_answers.ReasonOut.{ReasonOut}
+use Rattle.prelude.specs.declared.refusals.Refusal.{Refusal}
 
 -- APPTBOOK_OWN_DAY, APPTBOOK_MOVED, and so on in the header
 unfoldable pub reason_number : Reason → ℕ
@@ -22,9 +22,9 @@ reason_number Reason.WrongDay = 8
 reason_number Reason.WrongWeekday = 9
 reason_number Reason.WrongWeek = 10
 
-unfoldable pub reason_out : ReasonAnswer → ReasonOut
-reason_out (ReasonAnswer.Reason q) = record { number = 0; place = 0; reason = reason_number q }
-reason_out (ReasonAnswer.Refused e) = record { number = e.number; place = e.place; reason = 0 }
+unfoldable pub reason_out : Result Reason Refusal → ReasonOut
+reason_out (Ok q) = record { number = 0; place = 0; reason = reason_number q }
+reason_out (Err e) = record { number = e.number; place = e.place; reason = 0 }
 
 -- what the number of a reason says
 abbrev pub ExplainedOut : List ℕ → ShortMonth → CalendarDay → ℕ → ReasonOut → Type 0

@@ -1,16 +1,15 @@
 -- A record across C: number 0 and its values, or the refusal with every value 0. What a kind of record does not have is 0.
 -- Assumes nothing.
-use Rattle.std.specs.Prelude.{ℕ, Bool, true, false}
+use Rattle.std.specs.Prelude.{Result, Ok, Err, Option, Some, None, ℕ, Bool, true, false}
 use Rattle.days.specs.declared.types.Date.{Date}
 use Rattle.records.specs.declared.types.Dated.{Dated}
 use Rattle.records.specs.declared.types.Repeat.{Repeat}
 use Rattle.records.specs.declared.types.ToDo.{ToDo}
-use Rattle.records.specs.declared.types.CheckOff.{CheckOff}
 use Rattle.records.specs.declared.types.Record.{Record}
 use Rattle.book.specs.declared.types.Entry.{Entry}
-use Rattle.book.specs.declared.types.RecordAnswer.{RecordAnswer}
 use Rattle.marshal.specs.declared.record_answers.Numbers.{Numbers}
 use Rattle.marshal.specs.declared.record_answers.RecordOut.{RecordOut}
+use Rattle.prelude.specs.declared.refusals.Refusal.{Refusal}
 
 abbrev pub no_date : Date
 no_date = record { year = 0; month = 0; day = 0 }
@@ -72,9 +71,9 @@ unfoldable pub to_do_out : Entry → ToDo → Date → Bool → RecordOut
 to_do_out e t on checked =
     record_with e 6 (numbers 0 0 0 0 t.priority 0 0 0) t.start no_date on t.carry_forward checked
 
-unfoldable pub checked_out : Entry → ToDo → CheckOff → RecordOut
-checked_out e t CheckOff.NotCheckedOff = to_do_out e t no_date false
-checked_out e t (CheckOff.On d) = to_do_out e t d true
+unfoldable pub checked_out : Entry → ToDo → Option Date → RecordOut
+checked_out e t None = to_do_out e t no_date false
+checked_out e t (Some d) = to_do_out e t d true
 
 unfoldable pub kind_out : Entry → Record → RecordOut
 kind_out e (Record.Dated d) = dated_out e d
@@ -116,6 +115,6 @@ refused_out number place =
       checked_off = false;
     }
 
-unfoldable pub record_out : RecordAnswer → RecordOut
-record_out (RecordAnswer.Record e) = kind_out e e.«record»
-record_out (RecordAnswer.Refused e) = refused_out e.number e.place
+unfoldable pub record_out : Result Entry Refusal → RecordOut
+record_out (Ok e) = kind_out e e.«record»
+record_out (Err e) = refused_out e.number e.place

@@ -1,22 +1,28 @@
 -- A record as a caller hands it over across C: as the reading calls give it.
 -- Assumes nothing.
-use Rattle.std.specs.Prelude.{ℕ}
+use Rattle.std.specs.Prelude.{Option, Some, None, ℕ}
 use Rattle.prelude.specs.Choice.{if_eq, if_b}
 use Rattle.records.specs.declared.types.Dated.{Dated}
 use Rattle.records.specs.declared.types.Repeat.{Repeat}
-use Rattle.records.specs.declared.types.CheckOff.{CheckOff}
 use Rattle.records.specs.declared.types.ToDo.{ToDo}
 use Rattle.records.specs.declared.types.Record.{Record}
 use Rattle.marshal.specs.declared.record_answers.RecordOut.{RecordOut}
+use Rattle.days.specs.declared.types.Date.{Date}
+
+abbrev pub first_in : RecordOut → Date
+first_in r = record { year = r.first_year; month = r.first_month; day = r.first_day }
+
+abbrev pub last_in : RecordOut → Date
+last_in r = record { year = r.last_year; month = r.last_month; day = r.last_day }
 
 abbrev pub repeat_in : RecordOut → Repeat
 repeat_in r =
     record {
       alarm = r.flag;
       start = record { 0 = r.start };
-      first = record { year = r.first_year; month = r.first_month; day = r.first_day };
+      first = first_in r;
       end = record { 0 = r.end };
-      last = record { year = r.last_year; month = r.last_month; day = r.last_day };
+      last = last_in r;
       lead = r.lead;
     }
 
@@ -24,24 +30,24 @@ abbrev pub dated_in : RecordOut → Dated
 dated_in r =
     record {
       alarm = r.flag;
-      date = record { year = r.first_year; month = r.first_month; day = r.first_day };
+      date = first_in r;
       start = record { 0 = r.start };
       end = record { 0 = r.end };
       lead = r.lead;
     }
 
-unfoldable pub check_off_in : RecordOut → CheckOff
+unfoldable pub check_off_in : RecordOut → Option Date
 check_off_in r =
     if_b r.checked_off
-    (CheckOff.On (record { year = r.check_off_year; month = r.check_off_month; day = r.check_off_day }))
-    CheckOff.NotCheckedOff
+    (Some (record { year = r.check_off_year; month = r.check_off_month; day = r.check_off_day }))
+    None
 
 abbrev pub to_do_in : RecordOut → ℕ → ToDo
 to_do_in r priority =
     record {
       carry_forward = r.flag;
       priority = priority;
-      start = record { year = r.first_year; month = r.first_month; day = r.first_day };
+      start = first_in r;
       check_off = check_off_in r;
     }
 

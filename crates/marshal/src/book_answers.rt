@@ -2,11 +2,13 @@
 ghost use Rattle.std.specs.Prelude.{◌≡◌};
 ghost use Rattle.marshal.specs.BookAnswers.{book_out, line_out, settings_in};
 
-use book::types::{BookAnswer, Settings, StretchAnswer};
+use book::types::{Book, Settings};
 use days::types::Minute;
+use prelude::refusals::Refusal;
+use prelude::slices::Stretch;
 
 #[repr(C)]
-#[derive(Clone, Copy)]
+#[derive(Clone, Copy, Default)]
 pub struct BookOut {
     pub number: u32,
     pub place: usize,
@@ -19,7 +21,7 @@ pub struct BookOut {
 }
 
 #[repr(C)]
-#[derive(Clone, Copy)]
+#[derive(Clone, Copy, Default)]
 pub struct LineOut {
     pub number: u32,
     pub place: usize,
@@ -27,60 +29,61 @@ pub struct LineOut {
     pub length: usize,
 }
 
-pub fn book_out(a: BookAnswer) -> BookOut
-    ensures { result ≡ book_out a }
-{
-    match a {
-        BookAnswer::Accepted(b) => BookOut {
-            number: 0,
-            place: 0,
-            records: b.records,
-            start: b.settings.start.0,
-            granularity: b.settings.granularity,
-            lead: b.settings.lead,
-            alarm: b.settings.alarm,
-            carry_forward: b.settings.carry_forward,
-        },
-        BookAnswer::Refused(e) => BookOut {
-            number: e.number,
-            place: e.place,
-            records: 0,
-            start: 0,
-            granularity: 0,
-            lead: 0,
-            alarm: false,
-            carry_forward: false,
-        },
+impl From<Result<Book, Refusal>> for BookOut {
+    ghost from_gives = { λ a r. r ≡ book_out a };
+
+    #[tactic(auto, unfolding(crate::specs::BookAnswers::book_out))]
+    fn from(a: Result<Book, Refusal>) -> BookOut {
+        match a {
+            Ok(b) => BookOut {
+                records: b.records,
+                start: b.settings.start.0,
+                granularity: b.settings.granularity,
+                lead: b.settings.lead,
+                alarm: b.settings.alarm,
+                carry_forward: b.settings.carry_forward,
+                ..BookOut::default()
+            },
+            Err(e) => BookOut {
+                number: e.number,
+                place: e.place,
+                ..BookOut::default()
+            },
+        }
     }
 }
 
-pub fn line_out(a: StretchAnswer) -> LineOut
-    ensures { result ≡ line_out a }
-{
-    match a {
-        StretchAnswer::Stretch(s) => LineOut {
-            number: 0,
-            place: 0,
-            at: s.place,
-            length: s.length,
-        },
-        StretchAnswer::Refused(e) => LineOut {
-            number: e.number,
-            place: e.place,
-            at: 0,
-            length: 0,
-        },
+impl From<Result<Stretch, Refusal>> for LineOut {
+    ghost from_gives = { λ a r. r ≡ line_out a };
+
+    #[tactic(auto, unfolding(crate::specs::BookAnswers::line_out))]
+    fn from(a: Result<Stretch, Refusal>) -> LineOut {
+        match a {
+            Ok(s) => LineOut {
+                at: s.place,
+                length: s.length,
+                ..LineOut::default()
+            },
+            Err(e) => LineOut {
+                number: e.number,
+                place: e.place,
+                ..LineOut::default()
+            },
+        }
     }
 }
 
-pub fn settings_in(b: BookOut) -> Settings
-    ensures { result ≡ settings_in b }
-{
-    Settings {
-        start: Minute(b.start),
-        granularity: b.granularity,
-        alarm: b.alarm,
-        lead: b.lead,
-        carry_forward: b.carry_forward,
+impl From<BookOut> for Settings {
+    ghost from_gives = { λ a r. r ≡ settings_in a };
+
+    #[tactic(auto, unfolding(crate::specs::BookAnswers::settings_in))]
+    fn from(b: BookOut) -> Settings {
+        Settings {
+            start: Minute(b.start),
+            granularity: b.granularity,
+            alarm: b.alarm,
+            lead: b.lead,
+            carry_forward: b.carry_forward,
+        }
     }
 }

@@ -2,10 +2,11 @@
 ghost use Rattle.std.specs.Prelude.{◌≡◌};
 ghost use Rattle.marshal.specs.CalendarAnswers.{descriptor_out, appointment_out};
 
-use calendar::types::{AppointmentAnswer, DescriptorAnswer};
+use calendar::types::{Descriptor, StoredAppointment};
+use prelude::refusals::Refusal;
 
 #[repr(C)]
-#[derive(Clone, Copy)]
+#[derive(Clone, Copy, Default)]
 pub struct DescriptorOut {
     pub number: u32,
     pub place: usize,
@@ -14,7 +15,7 @@ pub struct DescriptorOut {
 }
 
 #[repr(C)]
-#[derive(Clone, Copy)]
+#[derive(Clone, Copy, Default)]
 pub struct AppointmentOut {
     pub number: u32,
     pub place: usize,
@@ -24,44 +25,44 @@ pub struct AppointmentOut {
     pub flags: u16,
 }
 
-pub fn descriptor_out(a: DescriptorAnswer) -> DescriptorOut
-    ensures { result ≡ descriptor_out a }
-{
-    match a {
-        DescriptorAnswer::Descriptor(d) => DescriptorOut {
-            number: 0,
-            place: 0,
-            day: d.day.0,
-            offset: d.offset,
-        },
-        DescriptorAnswer::Refused(e) => DescriptorOut {
-            number: e.number,
-            place: e.place,
-            day: 0,
-            offset: 0,
-        },
+impl From<Result<Descriptor, Refusal>> for DescriptorOut {
+    ghost from_gives = { λ a r. r ≡ descriptor_out a };
+
+    #[tactic(auto, unfolding(crate::specs::CalendarAnswers::descriptor_out))]
+    fn from(a: Result<Descriptor, Refusal>) -> DescriptorOut {
+        match a {
+            Ok(d) => DescriptorOut {
+                day: d.day.0,
+                offset: d.offset,
+                ..DescriptorOut::default()
+            },
+            Err(e) => DescriptorOut {
+                number: e.number,
+                place: e.place,
+                ..DescriptorOut::default()
+            },
+        }
     }
 }
 
-pub fn appointment_out(a: AppointmentAnswer) -> AppointmentOut
-    ensures { result ≡ appointment_out a }
-{
-    match a {
-        AppointmentAnswer::Appointment(e) => AppointmentOut {
-            number: 0,
-            place: 0,
-            text_at: e.text.place,
-            text_length: e.text.length,
-            minute: e.minute.0,
-            flags: e.flags,
-        },
-        AppointmentAnswer::Refused(e) => AppointmentOut {
-            number: e.number,
-            place: e.place,
-            text_at: 0,
-            text_length: 0,
-            minute: 0,
-            flags: 0,
-        },
+impl From<Result<StoredAppointment, Refusal>> for AppointmentOut {
+    ghost from_gives = { λ a r. r ≡ appointment_out a };
+
+    #[tactic(auto, unfolding(crate::specs::CalendarAnswers::appointment_out))]
+    fn from(a: Result<StoredAppointment, Refusal>) -> AppointmentOut {
+        match a {
+            Ok(e) => AppointmentOut {
+                text_at: e.text.place,
+                text_length: e.text.length,
+                minute: e.minute.0,
+                flags: e.flags,
+                ..AppointmentOut::default()
+            },
+            Err(e) => AppointmentOut {
+                number: e.number,
+                place: e.place,
+                ..AppointmentOut::default()
+            },
+        }
     }
 }

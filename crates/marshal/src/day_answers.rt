@@ -2,10 +2,11 @@
 ghost use Rattle.std.specs.Prelude.{◌≡◌};
 ghost use Rattle.marshal.specs.DayAnswers.{length_out, day_out, psion_out, date_out, weekday_out};
 
-use days::answers::{DateAnswer, DayAnswer, LengthAnswer, PsionAnswer, WeekdayAnswer};
+use days::types::{CalendarDay, Date, PsionDay};
+use prelude::refusals::Refusal;
 
 #[repr(C)]
-#[derive(Clone, Copy)]
+#[derive(Clone, Copy, Default)]
 pub struct LengthOut {
     pub number: u32,
     pub place: usize,
@@ -13,7 +14,7 @@ pub struct LengthOut {
 }
 
 #[repr(C)]
-#[derive(Clone, Copy)]
+#[derive(Clone, Copy, Default)]
 pub struct DayOut {
     pub number: u32,
     pub place: usize,
@@ -21,7 +22,7 @@ pub struct DayOut {
 }
 
 #[repr(C)]
-#[derive(Clone, Copy)]
+#[derive(Clone, Copy, Default)]
 pub struct DateOut {
     pub number: u32,
     pub place: usize,
@@ -31,98 +32,107 @@ pub struct DateOut {
 }
 
 #[repr(C)]
-#[derive(Clone, Copy)]
+#[derive(Clone, Copy, Default)]
 pub struct WeekdayOut {
     pub number: u32,
     pub place: usize,
     pub weekday: u16,
 }
 
-pub fn length_out(a: LengthAnswer) -> LengthOut
-    ensures { result ≡ length_out a }
-{
-    match a {
-        LengthAnswer::Length(length) => LengthOut {
-            number: 0,
-            place: 0,
-            length,
-        },
-        LengthAnswer::Refused(e) => LengthOut {
-            number: e.number,
-            place: e.place,
-            length: 0,
-        },
+impl From<Result<u16, Refusal>> for LengthOut {
+    ghost from_gives = { λ a r. r ≡ length_out a };
+
+    #[tactic(auto, unfolding(crate::specs::DayAnswers::length_out))]
+    fn from(a: Result<u16, Refusal>) -> LengthOut {
+        match a {
+            Ok(length) => LengthOut {
+                length,
+                ..LengthOut::default()
+            },
+            Err(e) => LengthOut {
+                number: e.number,
+                place: e.place,
+                ..LengthOut::default()
+            },
+        }
     }
 }
 
-pub fn day_out(a: DayAnswer) -> DayOut
-    ensures { result ≡ day_out a }
-{
-    match a {
-        DayAnswer::Day(n) => DayOut {
-            number: 0,
-            place: 0,
-            day: n.0,
-        },
-        DayAnswer::Refused(e) => DayOut {
-            number: e.number,
-            place: e.place,
-            day: 0,
-        },
+impl From<Result<CalendarDay, Refusal>> for DayOut {
+    ghost from_gives = { λ a r. r ≡ day_out a };
+
+    #[tactic(auto, unfolding(crate::specs::DayAnswers::day_out))]
+    fn from(a: Result<CalendarDay, Refusal>) -> DayOut {
+        match a {
+            Ok(n) => DayOut {
+                day: n.0,
+                ..DayOut::default()
+            },
+            Err(e) => DayOut {
+                number: e.number,
+                place: e.place,
+                ..DayOut::default()
+            },
+        }
     }
 }
 
-pub fn psion_out(a: PsionAnswer) -> DayOut
-    ensures { result ≡ psion_out a }
-{
-    match a {
-        PsionAnswer::Day(p) => DayOut {
-            number: 0,
-            place: 0,
-            day: p.0,
-        },
-        PsionAnswer::Refused(e) => DayOut {
-            number: e.number,
-            place: e.place,
-            day: 0,
-        },
+// Kept: beside the one above: a trait over both kinds of day, with its law, would be longer than both.
+impl From<Result<PsionDay, Refusal>> for DayOut {
+    ghost from_gives = { λ a r. r ≡ psion_out a };
+
+    #[tactic(auto, unfolding(crate::specs::DayAnswers::psion_out))]
+    fn from(a: Result<PsionDay, Refusal>) -> DayOut {
+        match a {
+            Ok(p) => DayOut {
+                day: p.0,
+                ..DayOut::default()
+            },
+            Err(e) => DayOut {
+                number: e.number,
+                place: e.place,
+                ..DayOut::default()
+            },
+        }
     }
 }
 
-pub fn date_out(a: DateAnswer) -> DateOut
-    ensures { result ≡ date_out a }
-{
-    match a {
-        DateAnswer::Date(d) => DateOut {
-            number: 0,
-            place: 0,
-            year: d.year,
-            month: d.month,
-            day: d.day,
-        },
-        DateAnswer::Refused(e) => DateOut {
-            number: e.number,
-            place: e.place,
-            year: 0,
-            month: 0,
-            day: 0,
-        },
+impl From<Result<Date, Refusal>> for DateOut {
+    ghost from_gives = { λ a r. r ≡ date_out a };
+
+    #[tactic(auto, unfolding(crate::specs::DayAnswers::date_out))]
+    fn from(a: Result<Date, Refusal>) -> DateOut {
+        match a {
+            Ok(d) => DateOut {
+                year: d.year,
+                month: d.month,
+                day: d.day,
+                ..DateOut::default()
+            },
+            Err(e) => DateOut {
+                number: e.number,
+                place: e.place,
+                ..DateOut::default()
+            },
+        }
     }
 }
 
-pub fn weekday_out(a: WeekdayAnswer) -> WeekdayOut
-    ensures { result ≡ weekday_out a }
-{
-    match a {
-        WeekdayAnswer::Weekday(weekday) => WeekdayOut {
-            number: 0,
-            place: 0,
-            weekday,
-        },
-        WeekdayAnswer::Refused(e) => WeekdayOut {
-            number: e.number,
-            place: e.place,
-            weekday: 0,
-        },
+impl From<Result<u16, Refusal>> for WeekdayOut {
+    ghost from_gives = { λ a r. r ≡ weekday_out a };
+
+    #[tactic(auto, unfolding(crate::specs::DayAnswers::weekday_out))]
+    fn from(a: Result<u16, Refusal>) -> WeekdayOut {
+        match a {
+            Ok(weekday) => WeekdayOut {
+                weekday,
+                ..WeekdayOut::default()
+            },
+            Err(e) => WeekdayOut {
+                number: e.number,
+                place: e.place,
+                ..WeekdayOut::default()
+            },
+        }
     }
 }

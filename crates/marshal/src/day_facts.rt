@@ -2,11 +2,11 @@
 ghost use Rattle.std.specs.Prelude.{◌≡◌};
 ghost use Rattle.marshal.specs.DayAnswers.{facts_out, facts_in};
 
-use days::answers::FactsAnswer;
 use days::types::{CalendarDay, Date, DayFacts};
+use prelude::refusals::Refusal;
 
 #[repr(C)]
-#[derive(Clone, Copy)]
+#[derive(Clone, Copy, Default)]
 pub struct FactsOut {
     pub number: u32,
     pub place: usize,
@@ -18,45 +18,45 @@ pub struct FactsOut {
     pub month_length: u16,
 }
 
-pub fn facts_out(a: FactsAnswer) -> FactsOut
-    ensures { result ≡ facts_out a }
-{
-    match a {
-        FactsAnswer::Facts(f) => FactsOut {
-            number: 0,
-            place: 0,
-            calendar_day: f.day.0,
-            year: f.date.year,
-            month: f.date.month,
-            day: f.date.day,
-            weekday: f.weekday,
-            month_length: f.length,
-        },
-        FactsAnswer::Refused(e) => FactsOut {
-            number: e.number,
-            place: e.place,
-            calendar_day: 0,
-            year: 0,
-            month: 0,
-            day: 0,
-            weekday: 0,
-            month_length: 0,
-        },
+impl From<Result<DayFacts, Refusal>> for FactsOut {
+    ghost from_gives = { λ a r. r ≡ facts_out a };
+
+    #[tactic(auto, unfolding(crate::specs::DayAnswers::facts_out))]
+    fn from(a: Result<DayFacts, Refusal>) -> FactsOut {
+        match a {
+            Ok(f) => FactsOut {
+                calendar_day: f.day.0,
+                year: f.date.year,
+                month: f.date.month,
+                day: f.date.day,
+                weekday: f.weekday,
+                month_length: f.length,
+                ..FactsOut::default()
+            },
+            Err(e) => FactsOut {
+                number: e.number,
+                place: e.place,
+                ..FactsOut::default()
+            },
+        }
     }
 }
 
 // On the way in number and place are not read.
-pub fn facts_in(facts: FactsOut) -> DayFacts
-    ensures { result ≡ facts_in facts }
-{
-    DayFacts {
-        day: CalendarDay(facts.calendar_day),
-        date: Date {
-            year: facts.year,
-            month: facts.month,
-            day: facts.day,
-        },
-        weekday: facts.weekday,
-        length: facts.month_length,
+impl From<FactsOut> for DayFacts {
+    ghost from_gives = { λ a r. r ≡ facts_in a };
+
+    #[tactic(auto, unfolding(crate::specs::DayAnswers::facts_in))]
+    fn from(facts: FactsOut) -> DayFacts {
+        DayFacts {
+            day: CalendarDay(facts.calendar_day),
+            date: Date {
+                year: facts.year,
+                month: facts.month,
+                day: facts.day,
+            },
+            weekday: facts.weekday,
+            length: facts.month_length,
+        }
     }
 }

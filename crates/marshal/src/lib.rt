@@ -1,4 +1,5 @@
 // Answers and arguments as they cross C: one repr(C) struct an answer, number 0 and the values, or the refusal with every value 0.
+// Kept: the structs, LengthOut and WeekdayOut each its own, with number, flag and kind as fields, are those of include/apptbook.h.
 #![tactic(auto)]
 
 pub mod book_answers;

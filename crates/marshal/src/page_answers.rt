@@ -1,12 +1,14 @@
 // Day pages and the next occurrence. The short-month choice comes as a flag: whether a missing day shows on the month's last day.
 ghost use Rattle.std.specs.Prelude.{◌≡◌};
-ghost use Rattle.marshal.specs.PageAnswers.{choice_of, falling_out, falls_out, page_line_out, next_out};
+ghost use Rattle.marshal.specs.PageAnswers.{choice_of, falling_out, falls_out, page_line_out, search_out, next_out};
 
+use days::types::CalendarDay;
 use falls::types::{Falling, ShortMonth};
-use pages::types::{FallsAnswer, LineAnswer, NextAnswer};
+use pages::types::{Line, Search};
+use prelude::refusals::Refusal;
 
 #[repr(C)]
-#[derive(Clone, Copy)]
+#[derive(Clone, Copy, Default)]
 pub struct FallsOut {
     pub number: u32,
     pub place: usize,
@@ -14,7 +16,7 @@ pub struct FallsOut {
 }
 
 #[repr(C)]
-#[derive(Clone, Copy)]
+#[derive(Clone, Copy, Default)]
 pub struct PageLineOut {
     pub number: u32,
     pub place: usize,
@@ -28,7 +30,7 @@ pub struct PageLineOut {
 }
 
 #[repr(C)]
-#[derive(Clone, Copy)]
+#[derive(Clone, Copy, Default)]
 pub struct OccurrenceOut {
     pub number: u32,
     pub place: usize,
@@ -37,13 +39,15 @@ pub struct OccurrenceOut {
     pub found: bool,
 }
 
+// Kept: functions, no `From`, since neither bool nor ShortMonth is of this crate.
 pub fn choice_of(last: bool) -> ShortMonth
     ensures { result ≡ choice_of last }
 {
     if last {
-        return ShortMonth::Last;
+        ShortMonth::Last
+    } else {
+        ShortMonth::Skip
     }
-    ShortMonth::Skip
 }
 
 // The flag that names a choice.
@@ -56,6 +60,8 @@ pub fn last_of(c: ShortMonth) -> bool
     }
 }
 
+// Kept: a function, no `From`, since neither u16 nor Falling is of this crate; and no `as`, since the header's numbers would hang on the order of variants in falls.
+#[tactic(auto, unfolding(crate::specs::PageAnswers::falling_out))]
 fn falling_out(f: Falling) -> u16
     ensures { result ≡ falling_out f }
 {
@@ -66,76 +72,83 @@ fn falling_out(f: Falling) -> u16
     }
 }
 
-pub fn falls_out(a: FallsAnswer) -> FallsOut
-    ensures { result ≡ falls_out a }
-{
-    match a {
-        FallsAnswer::Falls(f) => FallsOut {
-            number: 0,
-            place: 0,
-            falls: falling_out(f),
-        },
-        FallsAnswer::Refused(e) => FallsOut {
-            number: e.number,
-            place: e.place,
-            falls: 0,
-        },
+impl From<Result<Falling, Refusal>> for FallsOut {
+    ghost from_gives = { λ a r. r ≡ falls_out a };
+
+    #[tactic(auto, unfolding(crate::specs::PageAnswers::falls_out))]
+    fn from(a: Result<Falling, Refusal>) -> FallsOut {
+        match a {
+            Ok(f) => FallsOut {
+                falls: falling_out(f),
+                ..FallsOut::default()
+            },
+            Err(e) => FallsOut {
+                number: e.number,
+                place: e.place,
+                ..FallsOut::default()
+            },
+        }
     }
 }
 
-pub fn page_line_out(a: LineAnswer) -> PageLineOut
-    ensures { result ≡ page_line_out a }
-{
-    match a {
-        LineAnswer::Line(l) => PageLineOut {
-            number: 0,
-            place: 0,
-            record: l.number,
-            text_at: l.text.place,
-            text_length: l.text.length,
-            start: l.start.0,
-            end: l.end.0,
-            alarm: l.alarm,
-            moved: l.moved,
-        },
-        LineAnswer::Refused(e) => PageLineOut {
-            number: e.number,
-            place: e.place,
-            record: 0,
-            text_at: 0,
-            text_length: 0,
-            start: 0,
-            end: 0,
-            alarm: false,
-            moved: false,
-        },
+impl From<Result<Line, Refusal>> for PageLineOut {
+    ghost from_gives = { λ a r. r ≡ page_line_out a };
+
+    #[tactic(auto, unfolding(crate::specs::PageAnswers::page_line_out))]
+    fn from(a: Result<Line, Refusal>) -> PageLineOut {
+        match a {
+            Ok(l) => PageLineOut {
+                record: l.number,
+                text_at: l.text.place,
+                text_length: l.text.length,
+                start: l.start.0,
+                end: l.end.0,
+                alarm: l.alarm,
+                moved: l.moved,
+                ..PageLineOut::default()
+            },
+            Err(e) => PageLineOut {
+                number: e.number,
+                place: e.place,
+                ..PageLineOut::default()
+            },
+        }
     }
 }
 
-pub fn next_out(a: NextAnswer) -> OccurrenceOut
-    ensures { result ≡ next_out a }
+// Found, or none with the days looked at.
+#[tactic(auto, unfolding(crate::specs::PageAnswers::search_out))]
+fn search_out(looked: u32, day: Option<CalendarDay>) -> OccurrenceOut
+    ensures { result ≡ search_out looked day }
 {
-    match a {
-        NextAnswer::Found(o) => OccurrenceOut {
-            number: 0,
-            place: 0,
-            looked: o.looked,
-            day: o.day.0,
+    match day {
+        Some(n) => OccurrenceOut {
+            looked,
+            day: n.0,
             found: true,
+            ..OccurrenceOut::default()
         },
-        NextAnswer::NoneLeft(looked) => OccurrenceOut {
-            number: 0,
-            place: 0,
+        None => OccurrenceOut {
             looked,
             day: 0,
             found: false,
+            ..OccurrenceOut::default()
         },
-        NextAnswer::Refused(e) => OccurrenceOut {
-            number: e.number,
-            place: e.place,
-            looked: 0,
-            day: 0,
-            found: false,
-        },
+    }
+}
+
+impl From<Result<Search, Refusal>> for OccurrenceOut {
+    ghost from_gives = { λ a r. r ≡ next_out a };
+
+    #[tactic(auto, unfolding(crate::specs::PageAnswers::next_out))]
+    fn from(a: Result<Search, Refusal>) -> OccurrenceOut {
+        match a {
+            Ok(s) => search_out(s.looked, s.day),
+            Err(e) => OccurrenceOut {
+                number: e.number,
+                place: e.place,
+                ..OccurrenceOut::default()
+            },
+        }
     }
 }

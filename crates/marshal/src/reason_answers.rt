@@ -2,16 +2,19 @@
 ghost use Rattle.std.specs.Prelude.{◌≡◌};
 ghost use Rattle.marshal.specs.ReasonAnswers.{reason_number, reason_out};
 
-use reasons::types::{Reason, ReasonAnswer};
+use prelude::refusals::Refusal;
+use reasons::types::Reason;
 
 #[repr(C)]
-#[derive(Clone, Copy)]
+#[derive(Clone, Copy, Default)]
 pub struct ReasonOut {
     pub number: u32,
     pub place: usize,
     pub reason: u16,
 }
 
+// Kept: a function, no `From`, since neither u16 nor Reason is of this crate; and no `as`, since the header's numbers would hang on the order of variants in reasons.
+#[tactic(auto, unfolding(crate::specs::ReasonAnswers::reason_number))]
 fn reason_number(q: Reason) -> u16
     ensures { result ≡ reason_number q }
 {
@@ -29,19 +32,21 @@ fn reason_number(q: Reason) -> u16
     }
 }
 
-pub fn reason_out(a: ReasonAnswer) -> ReasonOut
-    ensures { result ≡ reason_out a }
-{
-    match a {
-        ReasonAnswer::Reason(q) => ReasonOut {
-            number: 0,
-            place: 0,
-            reason: reason_number(q),
-        },
-        ReasonAnswer::Refused(e) => ReasonOut {
-            number: e.number,
-            place: e.place,
-            reason: 0,
-        },
+impl From<Result<Reason, Refusal>> for ReasonOut {
+    ghost from_gives = { λ a r. r ≡ reason_out a };
+
+    #[tactic(auto, unfolding(crate::specs::ReasonAnswers::reason_out))]
+    fn from(a: Result<Reason, Refusal>) -> ReasonOut {
+        match a {
+            Ok(q) => ReasonOut {
+                reason: reason_number(q),
+                ..ReasonOut::default()
+            },
+            Err(e) => ReasonOut {
+                number: e.number,
+                place: e.place,
+                ..ReasonOut::default()
+            },
+        }
     }
 }

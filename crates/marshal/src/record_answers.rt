@@ -6,7 +6,7 @@ use book::types::Entry;
 use days::types::Date;
 
 #[repr(C)]
-#[derive(Clone, Copy)]
+#[derive(Clone, Copy, Default)]
 pub struct RecordOut {
     pub number: u32,
     pub place: usize,
@@ -38,7 +38,7 @@ pub struct RecordOut {
 }
 
 // The numbers that some kinds of records have and others have not.
-#[derive(Clone, Copy)]
+#[derive(Clone, Copy, Default)]
 pub struct Numbers {
     pub weekday: u16,
     pub week: u16,
@@ -50,6 +50,8 @@ pub struct Numbers {
     pub lead: u16,
 }
 
+// Kept: the arguments are those of the definition `record_with`: a check-off date goes beside the flag that it is there.
+#[tactic(auto, unfolding(crate::specs::RecordAnswers::record_with))]
 pub fn record_with(
     e: Entry,
     kind: u16,
@@ -93,6 +95,7 @@ pub fn record_with(
     }
 }
 
+// Kept: zeros for no date, as include/apptbook.h says.
 pub fn no_date() -> Date
     ensures { result ≡ no_date }
 {
@@ -103,36 +106,13 @@ pub fn no_date() -> Date
     }
 }
 
+#[tactic(auto, unfolding(crate::specs::RecordAnswers::refused_out))]
 pub fn refused_out(number: u32, place: usize) -> RecordOut
     ensures { result ≡ refused_out number place }
 {
     RecordOut {
         number,
         place,
-        at: 0,
-        text_at: 0,
-        text_length: 0,
-        note_at: 0,
-        note_length: 0,
-        kind: 0,
-        weekday: 0,
-        week: 0,
-        month: 0,
-        day: 0,
-        priority: 0,
-        start: 0,
-        end: 0,
-        lead: 0,
-        first_year: 0,
-        first_month: 0,
-        first_day: 0,
-        last_year: 0,
-        last_month: 0,
-        last_day: 0,
-        check_off_year: 0,
-        check_off_month: 0,
-        check_off_day: 0,
-        flag: false,
-        checked_off: false,
+        ..RecordOut::default()
     }
 }

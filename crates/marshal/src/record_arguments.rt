@@ -1,115 +1,114 @@
 // A record as a caller hands it over: as the reading calls give it. Number, place and stretches are not read.
 ghost use Rattle.std.specs.Prelude.{◌≡◌};
-ghost use Rattle.marshal.specs.RecordArguments.{repeat_in, dated_in, check_off_in, to_do_in, record_in};
+ghost use Rattle.marshal.specs.RecordArguments.{first_in, last_in, repeat_in, dated_in, check_off_in, to_do_in, record_in};
 
 use crate::record_answers::RecordOut;
 use days::types::{Date, Minute};
 use records::types::{
-    CheckOff, Dated, MonthlyByDate, MonthlyByPosition, Record, Repeat, ToDo, Weekly, Yearly,
+    Dated, MonthlyByDate, MonthlyByPosition, Record, Repeat, ToDo, Weekly, Yearly,
 };
 
-fn repeat_in(r: RecordOut) -> Repeat
-    ensures { result ≡ repeat_in r }
-{
-    Repeat {
-        alarm: r.flag,
-        start: Minute(r.start),
-        first: Date {
-            year: r.first_year,
-            month: r.first_month,
-            day: r.first_day,
-        },
-        end: Minute(r.end),
-        last: Date {
-            year: r.last_year,
-            month: r.last_month,
-            day: r.last_day,
-        },
-        lead: r.lead,
+impl RecordOut {
+    fn first(self) -> Date
+        ensures { result ≡ first_in self }
+    {
+        Date {
+            year: self.first_year,
+            month: self.first_month,
+            day: self.first_day,
+        }
     }
-}
 
-fn dated_in(r: RecordOut) -> Dated
-    ensures { result ≡ dated_in r }
-{
-    Dated {
-        alarm: r.flag,
-        date: Date {
-            year: r.first_year,
-            month: r.first_month,
-            day: r.first_day,
-        },
-        start: Minute(r.start),
-        end: Minute(r.end),
-        lead: r.lead,
+    fn last(self) -> Date
+        ensures { result ≡ last_in self }
+    {
+        Date {
+            year: self.last_year,
+            month: self.last_month,
+            day: self.last_day,
+        }
     }
-}
 
-fn check_off_in(r: RecordOut) -> CheckOff
-    ensures { result ≡ check_off_in r }
-{
-    if r.checked_off {
-        return CheckOff::On(Date {
-            year: r.check_off_year,
-            month: r.check_off_month,
-            day: r.check_off_day,
-        });
+    fn dated(self) -> Dated
+        ensures { result ≡ dated_in self }
+    {
+        Dated {
+            alarm: self.flag,
+            date: self.first(),
+            start: Minute(self.start),
+            end: Minute(self.end),
+            lead: self.lead,
+        }
     }
-    CheckOff::NotCheckedOff
-}
 
-fn to_do_in(r: RecordOut, priority: u16) -> ToDo
-    ensures { result ≡ to_do_in r priority }
-{
-    let check_off = check_off_in(r);
-    ToDo {
-        carry_forward: r.flag,
-        priority,
-        start: Date {
-            year: r.first_year,
-            month: r.first_month,
-            day: r.first_day,
-        },
-        check_off,
+    fn repeat(self) -> Repeat
+        ensures { result ≡ repeat_in self }
+    {
+        Repeat {
+            alarm: self.flag,
+            start: Minute(self.start),
+            first: self.first(),
+            end: Minute(self.end),
+            last: self.last(),
+            lead: self.lead,
+        }
+    }
+
+    #[tactic(auto, unfolding(crate::specs::RecordArguments::check_off_in))]
+    fn check_off(self) -> Option<Date>
+        ensures { result ≡ check_off_in self }
+    {
+        if self.checked_off {
+            Some(Date {
+                year: self.check_off_year,
+                month: self.check_off_month,
+                day: self.check_off_day,
+            })
+        } else {
+            None
+        }
+    }
+
+    fn to_do(self, priority: u16) -> ToDo
+        ensures { result ≡ to_do_in self priority }
+    {
+        ToDo {
+            carry_forward: self.flag,
+            priority,
+            start: self.first(),
+            check_off: self.check_off(),
+        }
     }
 }
 
 // A kind that is none is a to-do of priority 0, which is refused with 7.
-pub fn record_in(r: RecordOut) -> Record
-    ensures { result ≡ record_in r }
-{
-    if r.kind == 1 {
-        return Record::Dated(dated_in(r));
+impl From<RecordOut> for Record {
+    ghost from_gives = { λ r x. x ≡ record_in r };
+
+    #[tactic(auto, unfolding(crate::specs::RecordArguments::record_in))]
+    fn from(r: RecordOut) -> Record {
+        match r.kind {
+            1 => Record::Dated(r.dated()),
+            2 => Record::Weekly(Weekly {
+                weekday: r.weekday,
+                repeat: r.repeat(),
+            }),
+            3 => Record::MonthlyByDate(MonthlyByDate {
+                day: r.day,
+                repeat: r.repeat(),
+            }),
+            4 => Record::MonthlyByPosition(MonthlyByPosition {
+                week: r.week,
+                weekday: r.weekday,
+                repeat: r.repeat(),
+            }),
+            5 => Record::Yearly(Yearly {
+                month: r.month,
+                day: r.day,
+                repeat: r.repeat(),
+            }),
+            6 => Record::ToDo(r.to_do(r.priority)),
+            _ => Record::ToDo(r.to_do(0)),
+        }
     }
-    if r.kind == 2 {
-        let repeat = repeat_in(r);
-        return Record::Weekly(Weekly {
-            weekday: r.weekday,
-            repeat,
-        });
-    }
-    if r.kind == 3 {
-        let repeat = repeat_in(r);
-        return Record::MonthlyByDate(MonthlyByDate { day: r.day, repeat });
-    }
-    if r.kind == 4 {
-        let repeat = repeat_in(r);
-        return Record::MonthlyByPosition(MonthlyByPosition {
-            week: r.week,
-            weekday: r.weekday,
-            repeat,
-        });
-    }
-    if r.kind == 5 {
-        let repeat = repeat_in(r);
-        return Record::Yearly(Yearly {
-            month: r.month,
-            day: r.day,
-            repeat,
-        });
-    }
-    if r.kind == 6 {
-        return Record::ToDo(to_do_in(r, r.priority));
-    }
-    Record::ToDo(to_do_in(r, 0))
 }

@@ -2,7 +2,7 @@
 ghost use Rattle.std.specs.Prelude.{◌≡◌};
 ghost use Rattle.marshal.specs.WriterStates.{writer_out, writer_in};
 
-use writer::types::{WriteAnswer, Writer};
+use writer::types::{WriteRefusal, Writer};
 
 #[repr(C)]
 #[derive(Clone, Copy)]
@@ -13,31 +13,37 @@ pub struct WriterOut {
     pub closed: bool,
 }
 
-pub fn writer_out(a: WriteAnswer) -> WriterOut
-    ensures { result ≡ writer_out a }
-{
-    match a {
-        WriteAnswer::Done(w) => WriterOut {
-            number: 0,
-            place: 0,
-            used: w.used,
-            closed: w.closed,
-        },
-        WriteAnswer::Refused(e, w) => WriterOut {
-            number: e.number,
-            place: e.place,
-            used: w.used,
-            closed: w.closed,
-        },
+impl From<Result<Writer, WriteRefusal>> for WriterOut {
+    ghost from_gives = { λ a r. r ≡ writer_out a };
+
+    #[tactic(auto, unfolding(crate::specs::WriterStates::writer_out))]
+    fn from(a: Result<Writer, WriteRefusal>) -> WriterOut {
+        match a {
+            Ok(w) => WriterOut {
+                number: 0,
+                place: 0,
+                used: w.used,
+                closed: w.closed,
+            },
+            Err(e) => WriterOut {
+                number: e.refusal.number,
+                place: e.refusal.place,
+                used: e.writer.used,
+                closed: e.writer.closed,
+            },
+        }
     }
 }
 
 // On the way in number and place are not read.
-pub fn writer_in(state: WriterOut) -> Writer
-    ensures { result ≡ writer_in state }
-{
-    Writer {
-        used: state.used,
-        closed: state.closed,
+impl From<WriterOut> for Writer {
+    ghost from_gives = { λ a r. r ≡ writer_in a };
+
+    #[tactic(auto, unfolding(crate::specs::WriterStates::writer_in))]
+    fn from(state: WriterOut) -> Writer {
+        Writer {
+            used: state.used,
+            closed: state.closed,
+        }
     }
 }

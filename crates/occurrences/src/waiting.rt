@@ -1,4 +1,6 @@
 // How many days on from the day of a code a rule can show again.
+#![tactic(auto, using(std::proofs::lemmas::Bool::Decides::nat_tests), unfolding(crate::specs::Rules::to_day, crate::specs::Rules::to_date, crate::specs::Rules::wait_for, prelude::specs::Choice::if_lt, prelude::specs::Choice::if_eq))]
+
 ghost use Rattle.std.specs.Prelude.{◌≡◌};
 ghost use Rattle.occurrences.specs.Rules.{to_month, to_day, to_weekday, to_date, wait_for};
 
@@ -10,12 +12,7 @@ const LONGEST_WAIT: u32 = 366;
 fn to_month(p: u32) -> u32
     ensures { result ≡ to_month p }
 {
-    let length = month_length_in(p);
-    let day = day_in(p);
-    if day < length {
-        return length - day + 1;
-    }
-    1
+    month_length_in(p).saturating_sub(day_in(p)) + 1
 }
 
 fn to_day(p: u32, day: u32) -> u32
@@ -24,15 +21,12 @@ fn to_day(p: u32, day: u32) -> u32
     let length = month_length_in(p);
     let today = day_in(p);
     if length < day {
-        if today < length {
-            return length - today;
-        }
-        return 1;
+        if today < length { length - today } else { 1 }
+    } else if today < day {
+        day - today
+    } else {
+        to_month(p)
     }
-    if today < day {
-        return day - today;
-    }
-    to_month(p)
 }
 
 fn to_weekday(p: u32, weekday: u32) -> u32
@@ -40,12 +34,12 @@ fn to_weekday(p: u32, weekday: u32) -> u32
 {
     let today = weekday_in(p);
     if today < weekday {
-        return (weekday - today - 1) % 7 + 1;
+        (weekday - today - 1) % 7 + 1
+    } else if weekday + 6 < today {
+        7
+    } else {
+        weekday + 7 - today
     }
-    if weekday + 6 < today {
-        return 7;
-    }
-    weekday + 7 - today
 }
 
 fn to_date(p: u32, date: u32) -> u32
@@ -53,38 +47,25 @@ fn to_date(p: u32, date: u32) -> u32
 {
     let today = date_in(p);
     if today < date {
-        let month = to_month(p);
-        if date - today < month {
-            return date - today;
-        }
-        return month;
+        (date - today).min(to_month(p))
+    } else {
+        1
     }
-    1
 }
 
+// Kept: a number of days where it shows no more, too, as the clause says (`wait_for`): callers only step by it.
 pub fn wait_for(r: Rule, p: u32) -> u32
     ensures { result ≡ wait_for r p }
 {
     if r.last <= date_in(p) {
         return LONGEST_WAIT;
     }
-    if r.kind == 2 {
-        return to_weekday(p, r.a);
+    match r.kind {
+        2 | 4 => to_weekday(p, r.a),
+        1 => to_date(p, r.first),
+        3 => to_day(p, r.a),
+        5 if month_in(p) == r.a => to_day(p, r.b),
+        5 => to_month(p),
+        _ => LONGEST_WAIT,
     }
-    if r.kind == 1 {
-        return to_date(p, r.first);
-    }
-    if r.kind == 3 {
-        return to_day(p, r.a);
-    }
-    if r.kind == 4 {
-        return to_weekday(p, r.a);
-    }
-    if r.kind == 5 {
-        if month_in(p) == r.a {
-            return to_day(p, r.b);
-        }
-        return to_month(p);
-    }
-    LONGEST_WAIT
 }

@@ -1,25 +1,26 @@
 -- The next occurrence, document 01: for any test of days.
 -- Assumes nothing.
-use Rattle.std.specs.Prelude.{ℕ, zero, suc, ◌+◌, ◌-◌, ◌<◌, ◌≤◌, ◌≡◌, Bool, true, false}
+use Rattle.std.specs.Prelude.{Option, Some, None, ℕ, zero, suc, ◌+◌, ◌-◌, ◌<◌, ◌≤◌, ◌≡◌, Bool, true, false}
 use Rattle.prelude.specs.Choice.{if_b}
 use Rattle.days.specs.Days.{last_day}
-use Rattle.pages.specs.declared.types.NextAnswer.{NextAnswer}
+use Rattle.days.specs.declared.types.CalendarDay.{CalendarDay}
+use Rattle.pages.specs.declared.types.Search.{Search}
 
 -- "how many days were looked at, from the asked day through the found one"
-abbrev pub found_on : ℕ → ℕ → NextAnswer
-found_on asked found = NextAnswer.Found (record { day = record { 0 = found }; looked = found - asked + 1 })
+abbrev pub found_on : ℕ → ℕ → Search
+found_on asked found = record { day = Some (record { 0 = found }); looked = found - asked + 1 }
 
 -- "if none exists up to 43,829, it says none and the count is 43,830 − asked day"
-abbrev pub none_from : ℕ → NextAnswer
-none_from asked = NextAnswer.NoneLeft (last_day + 1 - asked)
+abbrev pub none_from : ℕ → Search
+none_from asked = record { day = None; looked = last_day + 1 - asked }
 
 -- the first of the k days from d on that passes
-unfoldable pub first_shown : (ℕ → Bool) → ℕ → ℕ → ℕ → NextAnswer
+unfoldable pub first_shown : (ℕ → Bool) → ℕ → ℕ → ℕ → Search
 first_shown p asked zero d = none_from asked
 first_shown p asked (suc k) d = if_b (p d) (found_on asked d) (first_shown p asked k (suc d))
 
 -- "the first such day at or after it"
-unfoldable pub next_of : (ℕ → Bool) → ℕ → NextAnswer
+unfoldable pub next_of : (ℕ → Bool) → ℕ → Search
 next_of p asked = first_shown p asked (last_day + 1 - asked) asked
 
 -- what the answers say, for any test of days
@@ -30,7 +31,9 @@ pub record FirstDay (p : ℕ → Bool) (asked found : ℕ) : Type 0 where
   pub none : (d : ℕ) → asked ≤ d → d < found → p d ≡ false
 
 -- a search finds a day or none, and refuses nothing
-abbrev pub Told : (ℕ → Bool) → ℕ → NextAnswer → Type 0
-Told p asked (NextAnswer.Found o) = FirstDay p asked o.day.0 × (o.looked ≡ o.day.0 - asked + 1)
-Told p asked (NextAnswer.NoneLeft n) = ((d : ℕ) → asked ≤ d → d ≤ last_day → p d ≡ false) × (n ≡ last_day + 1 - asked)
-Told p asked (NextAnswer.Refused e) = ⊥
+abbrev pub told_by : (ℕ → Bool) → ℕ → ℕ → Option CalendarDay → Type 0
+told_by p asked looked (Some d) = FirstDay p asked d.0 × (looked ≡ d.0 - asked + 1)
+told_by p asked looked None = ((d : ℕ) → asked ≤ d → d ≤ last_day → p d ≡ false) × (looked ≡ last_day + 1 - asked)
+
+abbrev pub Told : (ℕ → Bool) → ℕ → Search → Type 0
+Told p asked s = told_by p asked s.looked s.day

@@ -1,6 +1,6 @@
 -- Document 01, "Small facts to prove (set P)": one table. `Laws.SetP` proves it.
 -- Assumes nothing.
-use Rattle.std.specs.Prelude.{ℕ, zero, suc, ◌+◌, ◌≡◌, false, List, [], ◌∷◌}
+use Rattle.std.specs.Prelude.{Some, Ok, Err, ℕ, zero, suc, ◌+◌, ◌≡◌, false, List, [], ◌∷◌}
 use Rattle.prelude.specs.Refusals.{out_of_range, refusal}
 use Rattle.sorting.specs.Keep.{keep}
 use Rattle.days.specs.Dates.{month_length}
@@ -8,13 +8,11 @@ use Rattle.days.specs.Days.{day_number, weekday_of}
 use Rattle.days.specs.Facts.{facts_of}
 use Rattle.days.specs.Answers.{day_answer}
 use Rattle.days.specs.declared.types.Date.{Date}
-use Rattle.days.specs.declared.answers.DayAnswer.{DayAnswer}
 use Rattle.records.specs.declared.types.Repeat.{Repeat}
 use Rattle.records.specs.declared.types.Record.{Record}
 use Rattle.falls.specs.Falls.{falls}
 use Rattle.falls.specs.declared.types.ShortMonth.{ShortMonth}
 use Rattle.pages.specs.Next.{next_of}
-use Rattle.pages.specs.declared.types.NextAnswer.{NextAnswer}
 
 abbrev pub on : ℕ → ℕ → ℕ → Date
 on y m d = record { year = y; month = m; day = d }
@@ -41,12 +39,12 @@ pub data Fact : Type 0 where
   next_is : Record → ℕ → ℕ → ℕ → Fact
 
 abbrev pub FactHolds : Fact → Type 0
-FactHolds (date_is d n) = day_answer d ≡ DayAnswer.Day (record { 0 = n })
-FactHolds (no_date d) = day_answer d ≡ DayAnswer.Refused (refusal out_of_range)
+FactHolds (date_is d n) = day_answer d ≡ Ok (record { 0 = n })
+FactHolds (no_date d) = day_answer d ≡ Err (refusal out_of_range)
 FactHolds (weekday_is n w) = weekday_of n ≡ w
 FactHolds (falls_in c r y m ds) = keep (λ d. falls c (facts_of d) r) (days_of y m) ≡ ds
 FactHolds (next_is r asked found looked) =
-    next_of (λ d. falls ShortMonth.Skip (facts_of d) r) asked ≡ NextAnswer.Found (record { day = record { 0 = found }; looked = looked })
+    next_of (λ d. falls ShortMonth.Skip (facts_of d) r) asked ≡ record { day = Some (record { 0 = found }); looked = looked }
 
 abbrev pub All : List Fact → Type 0
 All [] = Unit {0}

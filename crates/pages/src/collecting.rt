@@ -8,7 +8,7 @@ ghost use Rattle.pages.specs.Invariants.{ReadyBook};
 use crate::codes::code_of;
 use crate::places::{falls_at, start_at};
 use crate::types::Ready;
-use book::entries::next_place;
+use book::located::RecordRef;
 use book::settings::FIRST_RECORD;
 use falls::types::ShortMonth;
 
@@ -18,21 +18,20 @@ pub fn count_lines(file: &[u8], c: ShortMonth, a: Ready) -> usize
     ensures { result ≡ length (page_on c a.facts file.now) }
 {
     let f = a.facts;
-    let mut at: usize = FIRST_RECORD;
-    let mut n: usize = 0;
-    let mut count: usize = 0;
-    while n < a.records {
-        let here = at;
-        at = next_place(file, here);
-        n += 1;
-        if falls_at(file, here, c, f) {
+    let mut at = FIRST_RECORD;
+    let mut count = 0;
+    for _ in 0..a.records {
+        let here = RecordRef { file, at };
+        if falls_at(here, c, f) {
             count += 1;
         }
+        at = here.next_place();
     }
     count
 }
 
 // The codes of the records that fall on the day, in the book's order, from the first of the lent ones on; those behind stay.
+// Kept: the count comes back beside the lent buffer, whose room is asked, as `order_codes` takes it: nothing here has a heap.
 pub fn collect(file: &[u8], c: ShortMonth, a: Ready, codes: &mut [u64]) -> usize
     requires ready_book { ReadyBook file.now a }
     requires records_in_bounds { a.records ≤ length codes.old }
@@ -41,18 +40,15 @@ pub fn collect(file: &[u8], c: ShortMonth, a: Ready, codes: &mut [u64]) -> usize
     ensures codes_unchanged { drop result codes.new ≡ drop result codes.old }
 {
     let f = a.facts;
-    let mut at: usize = FIRST_RECORD;
-    let mut n: usize = 0;
-    let mut count: usize = 0;
-    while n < a.records {
-        let here = at;
-        let number = n;
-        at = next_place(file, here);
-        n += 1;
-        if falls_at(file, here, c, f) {
-            codes[count] = code_of(start_at(file, here), number, here);
+    let mut at = FIRST_RECORD;
+    let mut count = 0;
+    for number in 0..a.records {
+        let here = RecordRef { file, at };
+        if falls_at(here, c, f) {
+            codes[count] = code_of(start_at(here), number, at);
             count += 1;
         }
+        at = here.next_place();
     }
     count
 }

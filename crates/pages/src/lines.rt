@@ -1,86 +1,80 @@
 // A day's page: how many lines it has, and the line at a place.
-ghost use Rattle.std.specs.Prelude.{◌≡◌, ◌≤◌, length};
+ghost use Rattle.std.specs.Prelude.{◌≡◌, ◌≤◌};
+ghost use Rattle.book.specs.Books.{most_records};
 ghost use Rattle.pages.specs.Answers.{page_line_in, line_text, page_count, page_line_at};
 ghost use Rattle.pages.specs.Invariants.{ReadyBook};
 ghost use Rattle.pages.specs.Pages.{falls_on};
 
 use crate::collecting::count_lines;
 use crate::ordering::{line_of, page_codes};
-use crate::types::{LineAnswer, Ready, Validated};
+use crate::types::{Line, Ready};
 use crate::validating::validate;
 use book::types::MOST_RECORDS;
 use days::types::CalendarDay;
 use falls::types::ShortMonth;
-use prelude::answers::CountAnswer;
+use prelude::refusals::Refusal;
 use prelude::refused::NO_SUCH_NUMBER;
-use prelude::slices::part;
+
+// A book of up to so many records needs little working space.
+const FEW_RECORDS: usize = 64;
 
 // The number of lines of a day's page.
-pub fn page_lines(file: &[u8], n: CalendarDay, c: ShortMonth) -> CountAnswer
+#[tactic(auto, unfolding(crate::specs::Answers::page_count_in))]
+pub fn page_lines(file: &[u8], n: CalendarDay, c: ShortMonth) -> Result<usize, Refusal>
     ensures { result ≡ page_count (falls_on c) file.now n }
 {
-    let a = validate(file, n);
-    match a {
-        Validated::Ready(b) => CountAnswer::Count(count_lines(file, c, b)),
-        Validated::Refused(e) => CountAnswer::Refused(e),
-    }
+    let a = validate(file, n)?;
+    Ok(count_lines(file, c, a))
 }
 
-// The line at a place, by way of lent working space: what codes and spare hold is lost.
-fn line_with(
+// The line at a place, by way of working space for N records.
+fn line_with<const N: usize>(
     file: &[u8],
     c: ShortMonth,
     k: usize,
     a: Ready,
-    codes: &mut [u64],
-    spare: &mut [u64],
-) -> LineAnswer
+) -> Result<Line, Refusal>
     requires ready_book { ReadyBook file.now a }
-    requires records_in_bounds { a.records ≤ length codes.old }
-    requires codes_in_bounds { length codes.old ≤ length spare.old }
-    ensures { result ≡ page_line_in (falls_on c) file.now k (Validated.Ready a) }
+    requires records_in_bounds { a.records ≤ N }
+    requires size { N ≤ most_records }
+    ensures { result ≡ page_line_in (falls_on c) file.now k (Ok a) }
 {
-    let f = a.facts;
-    let n = page_codes(file, c, a, codes, spare);
+    // Kept: arrays on the stack with a count beside: nothing here has a heap.
+    let mut codes = [0u64; N];
+    let mut spare = [0u64; N];
+    let n = page_codes(file, c, a, &mut codes, &mut spare);
     if k < n {
-        return LineAnswer::Line(line_of(file, f, codes[k]));
+        return Ok(line_of(file, a.facts, codes[k]));
     }
-    LineAnswer::Refused(NO_SUCH_NUMBER)
+    Err(NO_SUCH_NUMBER)
 }
 
-// A book of few records needs little working space.
-fn line_in(file: &[u8], c: ShortMonth, k: usize, a: Ready) -> LineAnswer
+fn line_in(file: &[u8], c: ShortMonth, k: usize, a: Ready) -> Result<Line, Refusal>
     requires { ReadyBook file.now a }
-    ensures { result ≡ page_line_in (falls_on c) file.now k (Validated.Ready a) }
+    ensures { result ≡ page_line_in (falls_on c) file.now k (Ok a) }
 {
-    if a.records <= 64 {
-        let mut codes = [0u64; 64];
-        let mut spare = [0u64; 64];
-        return line_with(file, c, k, a, &mut codes, &mut spare);
+    if a.records <= FEW_RECORDS {
+        return line_with::<FEW_RECORDS>(file, c, k, a);
     }
-    let mut codes = [0u64; MOST_RECORDS];
-    let mut spare = [0u64; MOST_RECORDS];
-    line_with(file, c, k, a, &mut codes, &mut spare)
+    line_with::<MOST_RECORDS>(file, c, k, a)
 }
 
 // The line at a place of a day's page.
-pub fn line_at(file: &[u8], n: CalendarDay, c: ShortMonth, k: usize) -> LineAnswer
+#[tactic(auto, unfolding(crate::specs::Answers::page_line_in))]
+pub fn line_at(file: &[u8], n: CalendarDay, c: ShortMonth, k: usize) -> Result<Line, Refusal>
     ensures { result ≡ page_line_at (falls_on c) file.now n k }
 {
-    let a = validate(file, n);
-    match a {
-        Validated::Ready(b) => line_in(file, c, k, b),
-        Validated::Refused(e) => LineAnswer::Refused(e),
-    }
+    let a = validate(file, n)?;
+    line_in(file, c, k, a)
 }
 
 // The text of that line, as that stretch of the caller's file; nothing where there is no such line.
+#[tactic(auto, unfolding(crate::specs::Answers::line_text))]
 pub fn line_text(file: &[u8], n: CalendarDay, c: ShortMonth, k: usize) -> &[u8]
     ensures { result.now ≡ line_text file.now (page_line_at (falls_on c) file.now n k) }
 {
-    let a = line_at(file, n, c, k);
-    match a {
-        LineAnswer::Line(l) => part(file, l.text.place, l.text.length),
-        LineAnswer::Refused(_) => &file[..0],
-    }
+    let Ok(line) = line_at(file, n, c, k) else {
+        return &file[..0];
+    };
+    line.text.of(file)
 }

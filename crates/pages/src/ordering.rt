@@ -14,6 +14,7 @@ use falls::types::ShortMonth;
 use sorting::ordering::order_codes;
 
 // The codes of a day's page, in its order, from the first of the lent ones on; those behind stay. What spare holds is lost.
+// Kept: the count comes back beside the lent buffers, whose room is asked: nothing here has a heap.
 pub fn page_codes(
     file: &[u8],
     c: ShortMonth,
@@ -34,21 +35,17 @@ pub fn page_codes(
 }
 
 // The line of a code on the page of a day.
+#[tactic(auto, unfolding(crate::specs::Pages::page_line_of, crate::specs::Codes::decode, falls::specs::Moved::day_missing))]
 pub fn line_of(file: &[u8], f: DayFacts, code: u64) -> Line
     ensures { result ≡ page_line_of f (decode file.now code) }
 {
-    let number = number_in(code);
-    let at = place_in(code);
-    let listed = listed_at(file, at);
-    let start = listed.times.start;
-    let end = listed.times.end;
-    let text = listed.text;
+    let listed = listed_at(file, place_in(code));
     Line {
-        number,
-        start,
-        end,
+        number: number_in(code),
+        start: listed.times.start,
+        end: listed.times.end,
         alarm: listed.times.alarm,
         moved: lacks(f, listed.named),
-        text,
+        text: listed.text,
     }
 }

@@ -1,23 +1,18 @@
 // What the questions about a book and a day give.
 use days::types::{CalendarDay, DayFacts, Minute};
-use falls::types::{Falling, Times};
-use prelude::refusals::Refusal;
+use falls::types::Times;
 use prelude::slices::Stretch;
 
 // An accepted book's number of records, and the facts of a day in range.
+// Kept: no file in it, and `ReadyBook file a` in contracts: `validate` promises `≡ validated file n`, whose `Ready` is made from a list of bytes, which gives no reference.
 #[derive(Clone, Copy)]
 pub struct Ready {
     pub records: usize,
     pub facts: DayFacts,
 }
 
-#[derive(Clone, Copy)]
-pub enum Validated {
-    Ready(Ready),
-    Refused(Refusal),
-}
-
 // What a page lists of a record: its times, its alarm mark, the day of the month that it names or 0, and where its text lies.
+// Kept: 0, no Option, for no named day: the clause `named_value` of `listed_at` says `result.named ≡ named_day ..`, which is a number.
 #[derive(Clone, Copy)]
 pub struct Listed {
     pub times: Times,
@@ -36,29 +31,9 @@ pub struct Line {
     pub text: Stretch,
 }
 
+// The next occurrence, or none up to the last day; and how many days were looked at, from the asked day through the found one.
 #[derive(Clone, Copy)]
-pub enum FallsAnswer {
-    Falls(Falling),
-    Refused(Refusal),
-}
-
-#[derive(Clone, Copy)]
-pub enum LineAnswer {
-    Line(Line),
-    Refused(Refusal),
-}
-
-// The day found, and how many days were looked at, from the asked day through the found one.
-#[derive(Clone, Copy)]
-pub struct Occurrence {
-    pub day: CalendarDay,
+pub struct Search {
+    pub day: Option<CalendarDay>,
     pub looked: u32,
-}
-
-// The next occurrence; or none up to the last day, with the number of days looked at.
-#[derive(Clone, Copy)]
-pub enum NextAnswer {
-    Found(Occurrence),
-    NoneLeft(u32),
-    Refused(Refusal),
 }

@@ -1,6 +1,7 @@
 -- Document 01, "The numbers given on refusal", and the requests' numbers: each under a name, in the papers' order.
 -- Assumes nothing.
 use Rattle.std.specs.Prelude.{ℕ}
+use Rattle.prelude.specs.declared.refusals.Fault.{Fault}
 use Rattle.prelude.specs.declared.refusals.Refusal.{Refusal}
 
 -- 1: book over 65,535 bytes
@@ -106,6 +107,34 @@ bad_cancelled = 43
 -- 44: add is told of cancelled days
 abbrev pub has_cancelled : ℕ
 has_cancelled = 44
+
+-- the number of each
+abbrev pub number_of : Fault → ℕ
+number_of Fault.BookTooLong = book_too_long
+number_of Fault.NotABook = not_a_book
+number_of Fault.BadSettings = bad_settings
+number_of Fault.CutShort = cut_short
+number_of Fault.UnknownType = unknown_type
+number_of Fault.BadLength = bad_length
+number_of Fault.BadField = bad_field
+number_of Fault.BadText = bad_text
+number_of Fault.AfterEnd = after_end
+number_of Fault.NoSuchNumber = no_such_number
+number_of Fault.OutOfRange = out_of_range
+number_of Fault.NoRoom = no_room
+number_of Fault.TooManyBlocks = too_many_blocks
+number_of Fault.NotOpen = not_open
+number_of Fault.CalendarTooLong = calendar_too_long
+number_of Fault.NotACalendar = not_a_calendar
+number_of Fault.BadTable = bad_table
+number_of Fault.BadBlock = bad_block
+number_of Fault.BadAppointment = bad_appointment
+number_of Fault.BadArrays = bad_arrays
+number_of Fault.BadDayTable = bad_day_table
+number_of Fault.BadChain = bad_chain
+number_of Fault.BadChainOrder = bad_chain_order
+number_of Fault.BadCancelled = bad_cancelled
+number_of Fault.HasCancelled = has_cancelled
 
 -- the refusal of that number at that place
 abbrev pub refusal_at : ℕ → ℕ → Refusal

@@ -1,9 +1,7 @@
 // The project's vocabulary in code: reading bytes at any place, parts of a slice, and copying into a buffer.
-ghost use Rattle.std.specs.Prelude.{◌≡◌, ◌+◌, ◌<◌, ◌≤◌, length, drop};
-ghost use Rattle.prelude.specs.Bytes.{byte, word, word_high, part};
+ghost use Rattle.std.specs.Prelude.{◌≡◌, [], ◌∷◌, ◌+◌, ◌<◌, ◌≤◌, length};
+ghost use Rattle.prelude.specs.Bytes.{byte, word, word_high, part, stretch_bytes};
 ghost use Rattle.prelude.specs.Splice.{splice};
-
-use crate::numbers::wide;
 
 // A stretch of bytes: where it begins, and how many they are.
 #[derive(Clone, Copy)]
@@ -12,24 +10,38 @@ pub struct Stretch {
     pub length: usize,
 }
 
+impl Stretch {
+    // Its bytes in a file, as many of them as there are.
+    pub fn of(self, file: &[u8]) -> &[u8]
+        ensures { result.now ≡ stretch_bytes file.now self }
+    {
+        part(file, self.place, self.length)
+    }
+}
+
 // The byte at i, 0 past the end.
 pub fn byte(s: &[u8], i: usize) -> u8
     ensures { result ≡ byte s.now i }
 {
-    if i < s.len() { s[i] } else { 0 }
+    s.get(i).copied().unwrap_or(0)
+}
+
+// The bytes at i and behind it, 0 past the end.
+fn two(s: &[u8], i: usize) -> [u8; 2]
+    ensures { result ≡ byte s.now i ∷ (byte s.now (i + 1) ∷ []) }
+{
+    if i < s.len() {
+        [s[i], byte(s, i + 1)]
+    } else {
+        [0, 0]
+    }
 }
 
 // The number of the two bytes at i, low byte first.
 pub fn word(s: &[u8], i: usize) -> u16
     ensures { result ≡ word s.now i }
 {
-    if i < s.len() {
-        let first = wide(byte(s, i));
-        let second = wide(byte(s, i + 1));
-        first + 256 * second
-    } else {
-        0
-    }
+    u16::from_le_bytes(two(s, i))
 }
 
 // The same where both bytes are there, without looking.
@@ -37,49 +49,33 @@ pub fn word_in(s: &[u8], i: usize) -> u16
     requires { i + 1 < length s.now }
     ensures { result ≡ word s.now i }
 {
-    let first = wide(s[i]);
-    let second = wide(s[i + 1]);
-    first + 256 * second
+    u16::from_le_bytes([s[i], s[i + 1]])
 }
 
 // The number of the two bytes at i, high byte first.
 pub fn word_high(s: &[u8], i: usize) -> u16
     ensures { result ≡ word_high s.now i }
 {
-    if i < s.len() {
-        let first = wide(byte(s, i));
-        let second = wide(byte(s, i + 1));
-        256 * first + second
-    } else {
-        0
-    }
-}
-
-// What is left from a on.
-fn rest(s: &[u8], a: usize) -> &[u8]
-    ensures { result.now ≡ drop a s.now }
-{
-    if a <= s.len() { &s[a..] } else { &s[..0] }
+    u16::from_be_bytes(two(s, i))
 }
 
 // The n bytes from a, as many of them as there are.
+// Kept: a place and a length beside `Stretch`: `body_from` would build one only to lend it.
 pub fn part(s: &[u8], a: usize, n: usize) -> &[u8]
     ensures { result.now ≡ part s.now a n }
 {
-    let t = rest(s, a);
-    if n < t.len() { &t[..n] } else { t }
+    let rest = s.get(a..).unwrap_or(&[]);
+    &rest[..n.min(rest.len())]
 }
 
 // Writes src over dst from at on, and returns the place after it.
+// Kept: buffer, place and room apart: the clauses `put` and `next` are of one call (`splice`), and a struct around the `&mut` would be built at each.
 pub fn copy_in(dst: &mut [u8], at: usize, src: &[u8]) -> usize
     requires { at + length src.now ≤ length dst.old }
     ensures next { result ≡ at + length src.now }
     ensures put { dst.new ≡ splice dst.old at src.now }
 {
-    let mut j = 0;
-    while j < src.len() {
-        dst[at + j] = src[j];
-        j += 1;
-    }
-    at + j
+    let end = at + src.len();
+    dst[at..end].copy_from_slice(src);
+    end
 }

@@ -3,15 +3,14 @@ ghost use Rattle.std.specs.Prelude.{◌≡◌, true, false, map, ◌+◌, ◌≤
 ghost use Rattle.prelude.specs.Bytes.{bit, stretch_bytes};
 ghost use Rattle.prelude.specs.Choice.{if_lt};
 ghost use Rattle.book.specs.Books.{entry_at};
-ghost use Rattle.book.specs.Invariants.{RecordAt};
 ghost use Rattle.falls.specs.Moved.{day_missing};
 ghost use Rattle.pages.specs.Pages.{page_on, page_line_of, falls_on};
 ghost use Rattle.pages.specs.Invariants.{ReadyBook};
 ghost use Rattle.printing.specs.Printed.{page_lines, page_text};
-ghost use Rattle.printing.specs.Coded.{coded_lines, coded_text, CodesOf};
+ghost use Rattle.printing.specs.Coded.{coded_lines, coded_text};
 
-use crate::types::{MOST_PAGE_BYTES, Size};
-use book::entries::{body_at, next_place};
+use crate::types::{Coded, MOST_PAGE_BYTES, Size};
+use book::located::RecordRef;
 use book::settings::FIRST_RECORD;
 use days::types::DayFacts;
 use digits::puts::decimal_length;
@@ -20,18 +19,16 @@ use falls::types::ShortMonth;
 use pages::codes::place_in;
 use pages::places::falls_at;
 use pages::types::Ready;
-use prelude::numbers::bit_of;
 use records::fields::text_length;
 
-// The bytes of the line of the record at a place, on the page of a day.
-fn record_size(file: &[u8], f: DayFacts, at: usize) -> usize
-    requires { RecordAt file.now at }
-    ensures { result ≡ 13 + bit (day_missing f (entry_at file.now at).«record») + length (stretch_bytes file.now (entry_at file.now at).text) }
+// The bytes of the line of a record on the page of a day.
+fn record_size(here: RecordRef<'_>, f: DayFacts) -> usize
+    ensures { result ≡ 13 + bit (day_missing f (entry_at here.entry.file.now here.entry.at).«record») + length (stretch_bytes here.entry.file.now (entry_at here.entry.file.now here.entry.at).text) }
 {
-    let t = file[at];
-    let p = body_at(file, at);
+    let t = here.kind();
+    let p = here.body();
     let moved = day_missing(f, t, p);
-    13 + bit_of(moved) as usize + text_length(t, p) as usize
+    13 + usize::from(moved) + usize::from(text_length(t, p))
 }
 
 // The lines of a day's page and their bytes.
@@ -42,22 +39,21 @@ fn measure(file: &[u8], c: ShortMonth, a: Ready) -> Size
 {
     let f = a.facts;
     let mut at: usize = FIRST_RECORD;
-    let mut n: usize = 0;
     let mut lines: usize = 0;
     let mut bytes: usize = 0;
-    while n < a.records {
-        let here = at;
-        at = next_place(file, here);
-        n += 1;
-        if falls_at(file, here, c, f) {
+    for _ in 0..a.records {
+        let here = RecordRef { file, at };
+        at = here.next_place();
+        if falls_at(here, c, f) {
             lines += 1;
-            bytes += record_size(file, f, here);
+            bytes += record_size(here, f);
         }
     }
     Size { lines, bytes }
 }
 
 // The bytes of the whole page.
+#[tactic(auto, using(crate::proofs::Laws::Sizes::page_sizes))]
 pub fn page_size(file: &[u8], c: ShortMonth, a: Ready) -> usize
     requires { ReadyBook file.now a }
     ensures { result ≡ length (page_text (falls_on c) file.now a.facts) }
@@ -66,41 +62,36 @@ pub fn page_size(file: &[u8], c: ShortMonth, a: Ready) -> usize
     16 + decimal_length(s.lines) + s.bytes
 }
 
-// The bytes of the lines of codes.
-fn lines_size(file: &[u8], f: DayFacts, codes: &[u64]) -> usize
-    requires codes_len_bound { length (page_lines file.now (coded_lines file.now f codes.now)) ≤ 65535 }
-    requires codes_of { CodesOf file.now codes.now }
-    ensures { result ≡ length (page_lines file.now (coded_lines file.now f codes.now)) }
-{
-    let mut bytes: usize = 0;
-    let mut i: usize = 0;
-    while i < codes.len() {
-        bytes += record_size(file, f, place_in(codes[i]));
-        i += 1;
+impl Coded<'_> {
+    // The bytes of the lines.
+    fn lines_size(&self) -> usize
+        ensures { result ≡ length (page_lines self.now.file.now (coded_lines self.now.file.now self.now.facts self.now.codes.now)) }
+    {
+        let mut bytes: usize = 0;
+        for &code in self.codes {
+            let at = place_in(code);
+            let here = RecordRef {
+                file: self.file,
+                at,
+            };
+            bytes += record_size(here, self.facts);
+        }
+        bytes
     }
-    bytes
-}
 
-// The bytes of a page, by the codes of its lines.
-fn coded_size(file: &[u8], f: DayFacts, codes: &[u64]) -> usize
-    requires codes_len_bound { length (coded_text file.now f codes.now) ≤ 65535 }
-    requires codes_of { CodesOf file.now codes.now }
-    ensures { result ≡ length (coded_text file.now f codes.now) }
-{
-    16 + decimal_length(codes.len()) + lines_size(file, f, codes)
-}
+    // The bytes of the page.
+    #[tactic(auto, using(crate::proofs::Laws::Sizes::page_sizes))]
+    fn size(&self) -> usize
+        ensures { result ≡ length (coded_text self.now.file.now self.now.facts self.now.codes.now) }
+    {
+        16 + decimal_length(self.codes.len()) + self.lines_size()
+    }
 
-// Whether a page by its codes is longer than the room. No page is longer than MOST_PAGE_BYTES, so that it need not be measured then.
-pub fn exceeds(file: &[u8], f: DayFacts, codes: &[u64], room: usize) -> bool
-    requires codes_len_bound { length (coded_text file.now f codes.now) ≤ 65535 }
-    requires codes_of { CodesOf file.now codes.now }
-    ensures { result ≡ if_lt room (length (coded_text file.now f codes.now)) true false }
-{
-    if MOST_PAGE_BYTES <= room {
-        return false;
+    // Whether the page is longer than the room. No page is longer than MOST_PAGE_BYTES, so that it need not be measured then.
+    #[tactic(auto, using(falls::proofs::Laws::Tests::choices))]
+    pub fn exceeds(&self, room: usize) -> bool
+        ensures { result ≡ if_lt room (length (coded_text self.now.file.now self.now.facts self.now.codes.now)) true false }
+    {
+        room < MOST_PAGE_BYTES && room < self.size()
     }
-    if room < coded_size(file, f, codes) {
-        return true;
-    }
-    false
 }

@@ -1,4 +1,5 @@
 // The pieces of a printed page, put into a lent buffer. Each put returns the place after what it wrote.
+// Kept: puts with buffer, place and room, no `Display`: the clauses `put` and `next` say the lent buffer's bytes by `splice`, and a text is bytes in any code page, no `str`. A weekday is the paper's number.
 ghost use Rattle.std.specs.Prelude.{◌≡◌, ◌+◌, ◌≤◌, length};
 ghost use Rattle.prelude.specs.Splice.{splice};
 ghost use Rattle.printing.specs.Printed.{date_text, weekday_name, head_line, clock, moved_mark, page_line, page_lines};
@@ -8,8 +9,9 @@ use days::types::{Date, DayFacts};
 use digits::puts::{put_byte, put_decimal, put_four, put_two};
 use pages::ordering::line_of;
 use pages::types::Line;
-use prelude::slices::{copy_in, part};
+use prelude::slices::copy_in;
 
+#[tactic(auto, using(crate::proofs::Laws::Puts::puts), unfolding(crate::specs::Printed::date_text))]
 fn put_date(out: &mut [u8], at: usize, d: Date) -> usize
     requires { at + length (date_text d) ≤ length out.old }
     ensures next { result ≡ at + length (date_text d) }
@@ -22,28 +24,19 @@ fn put_date(out: &mut [u8], at: usize, d: Date) -> usize
     put_two(out, e, d.day)
 }
 
+#[tactic(auto, using(falls::proofs::Laws::Tests::choices), unfolding(crate::specs::Printed::weekday_name))]
 fn weekday_name(w: u16) -> [u8; 3]
     ensures { result ≡ weekday_name w }
 {
-    if w == 1 {
-        return [b'S', b'u', b'n'];
+    match w {
+        1 => *b"Sun",
+        2 => *b"Mon",
+        3 => *b"Tue",
+        4 => *b"Wed",
+        5 => *b"Thu",
+        6 => *b"Fri",
+        _ => *b"Sat",
     }
-    if w == 2 {
-        return [b'M', b'o', b'n'];
-    }
-    if w == 3 {
-        return [b'T', b'u', b'e'];
-    }
-    if w == 4 {
-        return [b'W', b'e', b'd'];
-    }
-    if w == 5 {
-        return [b'T', b'h', b'u'];
-    }
-    if w == 6 {
-        return [b'F', b'r', b'i'];
-    }
-    [b'S', b'a', b't']
 }
 
 fn put_weekday(out: &mut [u8], at: usize, w: u16) -> usize
@@ -56,6 +49,7 @@ fn put_weekday(out: &mut [u8], at: usize, w: u16) -> usize
 }
 
 // The head of a page of n lines.
+#[tactic(auto, using(crate::proofs::Laws::Puts::puts), unfolding(crate::specs::Printed::head_line))]
 pub fn put_head(out: &mut [u8], at: usize, d: DayFacts, n: usize) -> usize
     requires { at + length (head_line d n) ≤ length out.old }
     ensures next { result ≡ at + length (head_line d n) }
@@ -70,6 +64,7 @@ pub fn put_head(out: &mut [u8], at: usize, d: DayFacts, n: usize) -> usize
     put_byte(out, g, b'\n')
 }
 
+#[tactic(auto, using(crate::proofs::Laws::Puts::puts), unfolding(crate::specs::Printed::clock))]
 fn put_clock(out: &mut [u8], at: usize, m: u16) -> usize
     requires { at + length (clock m) ≤ length out.old }
     ensures next { result ≡ at + length (clock m) }
@@ -80,17 +75,16 @@ fn put_clock(out: &mut [u8], at: usize, m: u16) -> usize
     put_two(out, b, m % 60)
 }
 
+#[tactic(auto, using(crate::proofs::Laws::Puts::puts, falls::proofs::Laws::Tests::choices), unfolding(crate::specs::Printed::moved_mark))]
 fn put_mark(out: &mut [u8], at: usize, moved: bool) -> usize
     requires { at + length (moved_mark moved) ≤ length out.old }
     ensures next { result ≡ at + length (moved_mark moved) }
     ensures put { out.new ≡ splice out.old at (moved_mark moved) }
 {
-    if moved {
-        return put_byte(out, at, b'*');
-    }
-    at
+    if moved { put_byte(out, at, b'*') } else { at }
 }
 
+#[tactic(auto, using(crate::proofs::Laws::Puts::puts), unfolding(crate::specs::Printed::page_line))]
 fn put_line(file: &[u8], l: Line, out: &mut [u8], at: usize) -> usize
     requires { at + length (page_line file.now l) ≤ length out.old }
     ensures next { result ≡ at + length (page_line file.now l) }
@@ -101,8 +95,7 @@ fn put_line(file: &[u8], l: Line, out: &mut [u8], at: usize) -> usize
     let c = put_clock(out, b, l.end.0);
     let d = put_mark(out, c, l.moved);
     let e = put_byte(out, d, b' ');
-    let text = part(file, l.text.place, l.text.length);
-    let g = copy_in(out, e, text);
+    let g = copy_in(out, e, l.text.of(file));
     put_byte(out, g, b'\n')
 }
 
@@ -113,11 +106,8 @@ pub fn put_lines(file: &[u8], f: DayFacts, codes: &[u64], out: &mut [u8], at: us
     ensures put { out.new ≡ splice out.old at (page_lines file.now (coded_lines file.now f codes.now)) }
 {
     let mut pos = at;
-    let mut i = 0;
-    while i < codes.len() {
-        let l = line_of(file, f, codes[i]);
-        pos = put_line(file, l, out, pos);
-        i += 1;
+    for &code in codes {
+        pos = put_line(file, line_of(file, f, code), out, pos);
     }
     pos
 }

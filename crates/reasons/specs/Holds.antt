@@ -1,7 +1,7 @@
 -- What each reason says, as support would tell it on the phone, and "the first that holds": what R-8 asks to be shown.
 -- These statements stand apart from the tests by which the reason is found; `reason-first` ties the two.
 -- Assumes nothing.
-use Rattle.std.specs.Prelude.{ℕ, ◌≡◌, true, List, [], ◌∷◌, ◌⊎◌, get_or}
+use Rattle.std.specs.Prelude.{Result, Ok, ℕ, ◌≡◌, true, List, [], ◌∷◌, ◌⊎◌, get_or}
 use Rattle.std.proofs.Math.Option.{Option, none, some}
 use Rattle.prelude.specs.Choice.{if_b}
 use Rattle.sorting.specs.Keep.{keep}
@@ -21,7 +21,7 @@ use Rattle.pages.specs.Invariants.{record_at}
 use Rattle.pages.proofs.Laws.PageFacts.{of_number}
 use Rattle.reasons.specs.Reasons.{first_date, last_date, own_month, own_day, own_weekday, own_week, is_to_do, says_shown}
 use Rattle.reasons.specs.declared.types.Reason.{Reason}
-use Rattle.reasons.specs.declared.types.ReasonAnswer.{ReasonAnswer}
+use Rattle.prelude.specs.declared.refusals.Refusal.{Refusal}
 
 -- there is a date, and d is before it
 abbrev pub Earlier : Date → Option Date → Type 0
@@ -81,5 +81,5 @@ pub record Explained (f : List ℕ) (c : ShortMonth) (d : DayFacts) (k : ℕ) (q
   pub page : keep (of_number k) (page_on c d f) ≡ if_b (says_shown q) (record_at f k (get_or (places_of f) k 0) ∷ []) []
 
 -- what an answer with a reason says
-abbrev pub Promised : List ℕ → ShortMonth → CalendarDay → ℕ → ReasonAnswer → Type 0
-Promised f c n k answer = (q : Reason) → answer ≡ ReasonAnswer.Reason q → Explained f c (facts_of n.0) k q
+abbrev pub Promised : List ℕ → ShortMonth → CalendarDay → ℕ → Result Reason Refusal → Type 0
+Promised f c n k answer = (q : Reason) → answer ≡ Ok q → Explained f c (facts_of n.0) k q

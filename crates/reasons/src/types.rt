@@ -1,8 +1,7 @@
-// The reasons, and the answer to the question for one.
-use prelude::refusals::Refusal;
+// Why a record is on a day, or is not.
 
-// Document 02, R-8: why a record is on a day, or is not, in the request's order.
-#[derive(Clone, Copy)]
+// Document 02, R-8: the reasons, in the request's order.
+#[derive(Clone, Copy, PartialEq, Eq, Debug)]
 pub enum Reason {
     OwnDay,
     Moved,
@@ -14,10 +13,4 @@ pub enum Reason {
     WrongDay,
     WrongWeekday,
     WrongWeek,
-}
-
-#[derive(Clone, Copy)]
-pub enum ReasonAnswer {
-    Reason(Reason),
-    Refused(Refusal),
 }

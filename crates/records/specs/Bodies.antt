@@ -1,8 +1,8 @@
 -- The judgement of a record's body, document 01 "The numbers given on refusal": 6, 7, 8, in this order.
 -- Assumes nothing.
-use Rattle.std.specs.Prelude.{ℕ, ◌+◌, Bool, true, false, List, length}
+use Rattle.std.specs.Prelude.{Result, Ok, Err, ℕ, ◌+◌, Bool, true, false, List, length}
 use Rattle.prelude.specs.Choice.{if_lt, if_eq, if_b}
-use Rattle.prelude.specs.Refusals.{bad_length, bad_field, bad_text}
+use Rattle.prelude.specs.declared.refusals.Fault.{Fault}
 use Rattle.texts.specs.Notes.{no_zero, note_ok, most_text}
 use Rattle.records.specs.Fields.{dated_of, weekly_of, monthly_by_date_of, monthly_by_position_of, yearly_of, to_do_of, fixed_of, text_length, note_length, body_text, body_note}
 use Rattle.records.specs.Ranges.{dated_ok, weekly_ok, monthly_by_date_ok, monthly_by_position_ok, yearly_ok, to_do_ok, check_off_clean}
@@ -27,7 +27,9 @@ fields_ok t p =
 unfoldable pub texts_ok : ℕ → List ℕ → Bool
 texts_ok t p = if_b (no_zero (body_text t p)) (note_ok (body_note t p)) false
 
--- the refusal's number for the body of a record of a type 1 to 6, or 0
-unfoldable pub judge_body : ℕ → List ℕ → ℕ
+-- what is refused of the body of a record of a type 1 to 6, if anything
+unfoldable pub judge_body : ℕ → List ℕ → Result (Unit {0}) Fault
 judge_body t p =
-    if_b (lengths_ok t p) (if_b (fields_ok t p) (if_b (texts_ok t p) 0 bad_text) bad_field) bad_length
+    if_b (lengths_ok t p)
+    (if_b (fields_ok t p) (if_b (texts_ok t p) (Ok tt) (Err Fault.BadText)) (Err Fault.BadField))
+    (Err Fault.BadLength)

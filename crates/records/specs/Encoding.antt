@@ -1,11 +1,10 @@
 -- The encoding of a record as bytes, document 01 "The book": type, length, fixed fields in the table's order, text, note.
 -- Assumes nothing.
-use Rattle.std.specs.Prelude.{ℕ, ◌+◌, ◌-◌, Bool, true, false, List, [], ◌∷◌, ◌++◌, length}
+use Rattle.std.specs.Prelude.{Option, Some, None, ℕ, ◌+◌, ◌-◌, Bool, true, false, List, [], ◌∷◌, ◌++◌, length}
 use Rattle.prelude.specs.Choice.{if_lt, if_eq}
 use Rattle.prelude.specs.Bytes.{byte, bit, le16, be16}
 use Rattle.days.specs.declared.types.Date.{Date}
 use Rattle.records.specs.declared.types.Repeat.{Repeat}
-use Rattle.records.specs.declared.types.CheckOff.{CheckOff}
 use Rattle.records.specs.declared.types.Record.{Record}
 
 -- "date = year from 1900, month, day"
@@ -13,14 +12,14 @@ unfoldable pub date_bytes : Date → List ℕ
 date_bytes d = (d.year - 1900) ∷ (d.month ∷ (d.day ∷ []))
 
 -- "a to-do's bit 1 is checked off": what it adds to the state
-unfoldable pub check_off_bit : CheckOff → ℕ
-check_off_bit CheckOff.NotCheckedOff = 0
-check_off_bit (CheckOff.On d) = 2
+unfoldable pub check_off_bit : Option Date → ℕ
+check_off_bit None = 0
+check_off_bit (Some d) = 2
 
 -- "A check-off date is three zeros with bit 1 clear, or a real date with bit 1 set."
-unfoldable pub check_off_bytes : CheckOff → List ℕ
-check_off_bytes CheckOff.NotCheckedOff = 0 ∷ (0 ∷ (0 ∷ []))
-check_off_bytes (CheckOff.On d) = date_bytes d
+unfoldable pub check_off_bytes : Option Date → List ℕ
+check_off_bytes None = 0 ∷ (0 ∷ (0 ∷ []))
+check_off_bytes (Some d) = date_bytes d
 
 -- "tail = end minute, end date, lead, text length, note length of two bytes"
 unfoldable pub tail_bytes : Repeat → ℕ → ℕ → List ℕ

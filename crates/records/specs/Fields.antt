@@ -1,6 +1,6 @@
 -- The fields of a record's body, document 01 "The book": the bytes after the three head bytes. Bytes past the body's end count as 0.
 -- Assumes nothing.
-use Rattle.std.specs.Prelude.{ℕ, ◌+◌, ◌-◌, Bool, List, eqb}
+use Rattle.std.specs.Prelude.{Option, Some, None, ℕ, ◌+◌, ◌-◌, Bool, List, eqb}
 use Rattle.std.specs.Int.Bits.{bit_and}
 use Rattle.prelude.specs.Choice.{if_eq, if_b}
 use Rattle.prelude.specs.Bytes.{byte, word, word_high, part}
@@ -12,7 +12,6 @@ use Rattle.records.specs.declared.types.Weekly.{Weekly}
 use Rattle.records.specs.declared.types.MonthlyByDate.{MonthlyByDate}
 use Rattle.records.specs.declared.types.MonthlyByPosition.{MonthlyByPosition}
 use Rattle.records.specs.declared.types.Yearly.{Yearly}
-use Rattle.records.specs.declared.types.CheckOff.{CheckOff}
 use Rattle.records.specs.declared.types.ToDo.{ToDo}
 use Rattle.records.specs.declared.types.Record.{Record}
 
@@ -67,8 +66,8 @@ unfoldable pub yearly_of : List ℕ → Yearly
 yearly_of p = record { month = byte p 1; day = byte p 2; repeat = repeat_of p 3 }
 
 -- a to-do's bit 1 is "checked off", and the check-off date is there only with it
-unfoldable pub check_off_of : List ℕ → CheckOff
-check_off_of p = if_b (bit1 p) (CheckOff.On (date_at p 5)) CheckOff.NotCheckedOff
+unfoldable pub check_off_of : List ℕ → Option Date
+check_off_of p = if_b (bit1 p) (Some (date_at p 5)) None
 
 -- type 6: "s, priority 1..9, start date, check-off date"
 unfoldable pub to_do_of : List ℕ → ToDo

@@ -1,6 +1,6 @@
 -- When a record's fields are in range, document 01 "Ranges": one judge a kind, for reading and for writing. Otherwise the refusal is 7.
 -- Assumes nothing.
-use Rattle.std.specs.Prelude.{ℕ, Bool, true, false, List}
+use Rattle.std.specs.Prelude.{Option, Some, None, ℕ, Bool, true, false, List}
 use Rattle.prelude.specs.Choice.{if_lt, if_eq, if_b}
 use Rattle.prelude.specs.Bytes.{byte}
 use Rattle.days.specs.Dates.{month_length, real, before}
@@ -12,9 +12,9 @@ use Rattle.records.specs.declared.types.Weekly.{Weekly}
 use Rattle.records.specs.declared.types.MonthlyByDate.{MonthlyByDate}
 use Rattle.records.specs.declared.types.MonthlyByPosition.{MonthlyByPosition}
 use Rattle.records.specs.declared.types.Yearly.{Yearly}
-use Rattle.records.specs.declared.types.CheckOff.{CheckOff}
 use Rattle.records.specs.declared.types.ToDo.{ToDo}
 use Rattle.records.specs.declared.types.Record.{Record}
+use Rattle.days.specs.declared.types.Date.{Date}
 
 -- "Lead 0..30."
 abbrev pub most_lead : ℕ
@@ -57,9 +57,9 @@ unfoldable pub yearly_ok : Yearly → Bool
 yearly_ok y = if_b (between 1 y.day (month_length 2000 y.month)) (repeat_ok y.repeat) false
 
 -- "A check-off date is .. a real date with bit 1 set"
-unfoldable pub check_off_ok : CheckOff → Bool
-check_off_ok CheckOff.NotCheckedOff = true
-check_off_ok (CheckOff.On d) = real d
+unfoldable pub check_off_ok : Option Date → Bool
+check_off_ok None = true
+check_off_ok (Some d) = real d
 
 -- "priority 1..9"
 unfoldable pub to_do_ok : ToDo → Bool

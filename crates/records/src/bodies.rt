@@ -12,33 +12,22 @@ use crate::ranges::{
     check_off_clean, dated_ok, monthly_by_date_ok, monthly_by_position_ok, to_do_ok, weekly_ok,
     yearly_ok,
 };
-use prelude::numbers::wide_size;
-use prelude::refusals::{BAD_FIELD, BAD_LENGTH, BAD_TEXT};
+use prelude::refusals::Fault;
 use prelude::slices::word_in;
 use texts::rules::{MOST_TEXT, no_zero, note_ok_at};
 
+// Kept: here and below `t` is a byte, since the contracts speak of every byte; `t` and `p` are no struct, which would be built at each call, from `kind` and `body` of a `RecordRef` or from `byte` and `body_from`.
 fn fields_ok(t: u8, p: &[u8]) -> bool
     ensures { result ≡ fields_ok t p.now }
 {
-    if t == 1 {
-        return dated_ok(dated_of(p));
+    match t {
+        1 => dated_ok(dated_of(p)),
+        2 => weekly_ok(weekly_of(p)),
+        3 => monthly_by_date_ok(monthly_by_date_of(p)),
+        4 => monthly_by_position_ok(monthly_by_position_of(p)),
+        5 => yearly_ok(yearly_of(p)),
+        _ => to_do_ok(to_do_of(p)) && check_off_clean(p),
     }
-    if t == 2 {
-        return weekly_ok(weekly_of(p));
-    }
-    if t == 3 {
-        return monthly_by_date_ok(monthly_by_date_of(p));
-    }
-    if t == 4 {
-        return monthly_by_position_ok(monthly_by_position_of(p));
-    }
-    if t == 5 {
-        return yearly_ok(yearly_of(p));
-    }
-    if to_do_ok(to_do_of(p)) {
-        return check_off_clean(p);
-    }
-    false
 }
 
 // Text and note by their rules, where they lie in the body.
@@ -47,33 +36,27 @@ fn texts_ok(p: &[u8], fixed: usize, text: usize, note: usize) -> bool
     ensures { result ≡ if_b (no_zero (part p.now fixed text)) (note_ok (part p.now (fixed + text) note)) false }
 {
     let middle = fixed + text;
-    if no_zero(&p[fixed..middle]) {
-        return note_ok_at(p, middle, note);
-    }
-    false
+    no_zero(&p[fixed..middle]) && note_ok_at(p, middle, note)
 }
 
-// The refusal's number for the body of a record of a type 1 to 6, or 0.
-pub fn judge_body(t: u8, p: &[u8]) -> u32
+// The body of a record of a type 1 to 6.
+pub fn judge_body(t: u8, p: &[u8]) -> Result<(), Fault>
     ensures { result ≡ judge_body t p.now }
 {
     let fixed = fixed_of(t);
     if p.len() < fixed {
-        return BAD_LENGTH;
+        return Err(Fault::BadLength);
     }
-    let text = wide_size(p[fixed - 3]);
-    let note = word_in(p, fixed - 2) as usize;
-    if MOST_TEXT < text {
-        return BAD_LENGTH;
+    let text = usize::from(p[fixed - 3]);
+    let note = usize::from(word_in(p, fixed - 2));
+    if MOST_TEXT < text || p.len() - fixed < text + note {
+        return Err(Fault::BadLength);
     }
-    if p.len() - fixed < text + note {
-        return BAD_LENGTH;
+    if !fields_ok(t, p) {
+        return Err(Fault::BadField);
     }
-    if fields_ok(t, p) {
-        if texts_ok(p, fixed, text, note) {
-            return 0;
-        }
-        return BAD_TEXT;
+    if !texts_ok(p, fixed, text, note) {
+        return Err(Fault::BadText);
     }
-    BAD_FIELD
+    Ok(())
 }

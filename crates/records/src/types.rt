@@ -52,19 +52,13 @@ pub struct Yearly {
     pub repeat: Repeat,
 }
 
-#[derive(Clone, Copy)]
-pub enum CheckOff {
-    NotCheckedOff,
-    On(Date),
-}
-
 // Type 6.
 #[derive(Clone, Copy)]
 pub struct ToDo {
     pub carry_forward: bool,
     pub priority: u16,
     pub start: Date,
-    pub check_off: CheckOff,
+    pub check_off: Option<Date>,
 }
 
 #[derive(Clone, Copy)]

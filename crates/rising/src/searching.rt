@@ -2,40 +2,29 @@
 ghost use Rattle.std.specs.Prelude.{◌≡◌};
 ghost use Rattle.rising.specs.Rising.{contains as contains_in, Rising, Below, Split};
 
-use prelude::numbers::is_same_wide;
+// Kept: each asks for `Rising list`, and none takes a struct that holds the list: each is called by itself, of a list that the caller was lent, and a struct for one call is no plainer.
 
 // How many numbers of a rising list are below one.
 pub fn first_from(list: &[u32], number: u32) -> usize
     requires { Rising list.now }
     ensures { Split list.now number result }
 {
-    let mut low: usize = 0;
-    let mut high = list.len();
-    while low < high {
-        let middle = low + (high - low) / 2;
-        if list[middle] < number {
-            low = middle + 1;
-        } else {
-            high = middle;
-        }
-    }
-    low
+    list.partition_point(|x| *x < number)
 }
 
 // The same, on from a place with smaller numbers alone behind it: for one who asks of rising numbers.
+// Kept: a loop in steps of one: who asks of rising numbers finds each a few places on.
 pub fn on_from(list: &[u32], at: usize, number: u32) -> usize
     requires rising { Rising list.now }
     requires below { Below list.now number at }
     ensures { Split list.now number result }
 {
-    let mut i = at;
-    while i < list.len() {
+    for i in at..list.len() {
         if number <= list[i] {
             return i;
         }
-        i += 1;
     }
-    i
+    list.len()
 }
 
 // Whether the number stands at its place.
@@ -44,20 +33,13 @@ pub fn stands_at(list: &[u32], place: usize, number: u32) -> bool
     requires split { Split list.now number place }
     ensures { result ≡ contains_in list.now number }
 {
-    if place < list.len() {
-        return is_same_wide(list[place], number);
-    }
-    false
+    place < list.len() && list[place] == number
 }
 
-// Whether a number stands in a rising list; an empty one, as most are, is not searched.
+// Whether a number stands in a rising list.
 pub fn contains(list: &[u32], number: u32) -> bool
     requires { Rising list.now }
     ensures { result ≡ contains_in list.now number }
 {
-    if list.len() == 0 {
-        return false;
-    }
-    let place = first_from(list, number);
-    stands_at(list, place, number)
+    list.binary_search(&number).is_ok()
 }

@@ -1,15 +1,13 @@
 -- A book as it is read to be written again, document 01: its records with their texts and notes, when it is plain, and what it reads as.
 -- Assumes nothing.
-use Rattle.std.specs.Prelude.{ℕ, ◌+◌, ◌<◌, ◌≡◌, true, List, [], ◌∷◌, map, length, get_or}
+use Rattle.std.specs.Prelude.{Ok, ℕ, ◌+◌, ◌<◌, ◌≡◌, true, List, [], ◌∷◌, map, length, get_or}
 use Rattle.records.specs.Fields.{record_of, fixed_of, text_length, note_length, body_text, body_note}
 use Rattle.records.specs.Encoding.{plain_state}
 use Rattle.book.specs.Walk.{type_at, body_length_at, body_at}
 use Rattle.book.specs.Fillers.{fillers_of}
 use Rattle.book.specs.Books.{book_of, places_of, record_answer, record_text_in, record_note_in}
 use Rattle.book.specs.declared.types.Settings.{Settings}
-use Rattle.book.specs.declared.types.BookAnswer.{BookAnswer}
 use Rattle.book.specs.declared.types.Entry.{Entry}
-use Rattle.book.specs.declared.types.RecordAnswer.{RecordAnswer}
 use Rattle.writer.specs.Runs.{Item}
 
 -- the record at a place, with its text and its note
@@ -44,14 +42,14 @@ pub record Plain (f : List ℕ) : Type 0 where
 -- what is read at a number of a file is this item
 pub record Reads (f : List ℕ) (k : ℕ) (i : Item) : Type 0 where
   pub entry : Entry
-  pub found : record_answer f k ≡ RecordAnswer.Record entry
+  pub found : record_answer f k ≡ Ok entry
   pub «record» : entry.«record» ≡ i.kind
   pub text : record_text_in f (record_answer f k) ≡ i.text
   pub note : record_note_in f (record_answer f k) ≡ i.note
 
 -- a file reads as a book with these settings and items; an item is named by its number, and the other argument of get_or never counts
 pub record ReadsAs (f : List ℕ) (s : Settings) (is : List Item) : Type 0 where
-  pub book : book_of f ≡ BookAnswer.Accepted (record { settings = s; records = length is })
+  pub book : book_of f ≡ Ok (record { settings = s; records = length is })
   pub items : (k : ℕ) (x : Item) → k < length is → Reads f k (get_or is k x)
   -- bytes after the end record: "Writing adds none" (R-1)
   pub none-added : fillers_of f ≡ 0

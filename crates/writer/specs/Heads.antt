@@ -1,6 +1,6 @@
 -- A record's bytes as they are written: the head with the fixed bytes, then the text, then the note; and what fits into bytes.
 -- Assumes nothing.
-use Rattle.std.specs.Prelude.{ℕ, ◌+◌, ◌<◌, ◌≤◌, ◌≡◌, List, ◌∷◌, ◌++◌, length}
+use Rattle.std.specs.Prelude.{Option, Some, None, ℕ, ◌+◌, ◌<◌, ◌≤◌, ◌≡◌, List, ◌∷◌, ◌++◌, length}
 use Rattle.prelude.specs.Bytes.{bit, le16}
 use Rattle.prelude.specs.Splice.{splice}
 use Rattle.texts.specs.Notes.{most_text, most_note}
@@ -11,7 +11,7 @@ use Rattle.records.specs.declared.types.Record.{Record}
 use Rattle.records.specs.declared.types.Repeat.{Repeat}
 use Rattle.records.specs.declared.types.Dated.{Dated}
 use Rattle.records.specs.declared.types.ToDo.{ToDo}
-use Rattle.records.specs.declared.types.CheckOff.{CheckOff}
+use Rattle.days.specs.declared.types.Date.{Date}
 
 -- the three head bytes and the fixed bytes of a record with a text of t and a note of n bytes
 unfoldable pub record_head : Record → ℕ → ℕ → List ℕ
@@ -25,6 +25,10 @@ short_head kind a r t n = kind ∷ (le16 (16 + t + n) ++ (bit r.alarm ∷ (a ∷
 abbrev pub long_head : ℕ → ℕ → ℕ → Repeat → ℕ → ℕ → List ℕ
 long_head kind a b r t n = kind ∷ (le16 (17 + t + n) ++ (bit r.alarm ∷ (a ∷ (b ∷ from_start r t n))))
 
+-- types 2 to 5: the numbers before the start minute, then from it on
+abbrev pub repeat_head : ℕ → List ℕ → Repeat → ℕ → ℕ → List ℕ
+repeat_head kind numbers r t n = kind ∷ (le16 (15 + length numbers + t + n) ++ (bit r.alarm ∷ (numbers ++ from_start r t n)))
+
 -- what fits into bytes, kind by kind
 pub record DatedFit (d : Dated) : Type 0 where
   pub date : ThreeBytes d.date
@@ -35,9 +39,9 @@ pub record RepeatFit (r : Repeat) : Type 0 where
   pub last : ThreeBytes r.last
   pub lead : r.lead < 256
 
-abbrev pub CheckFit : CheckOff → Type 0
-CheckFit CheckOff.NotCheckedOff = Unit {0}
-CheckFit (CheckOff.On d) = ThreeBytes d
+abbrev pub CheckFit : Option Date → Type 0
+CheckFit None = Unit {0}
+CheckFit (Some d) = ThreeBytes d
 
 pub record ToDoFit (t : ToDo) : Type 0 where
   pub start : ThreeBytes t.start

@@ -1,6 +1,6 @@
 -- A whole run of writing: open, the adds, close, each on the handed-back state and the same buffer, untouched between the calls.
 -- Assumes nothing.
-use Rattle.std.specs.Prelude.{ℕ, ◌≤◌, ◌≡◌, true, false, List, [], ◌∷◌, ◌++◌, length, take}
+use Rattle.std.specs.Prelude.{Err, Result, Ok, ℕ, ◌≤◌, ◌≡◌, true, false, List, [], ◌∷◌, ◌++◌, length, take}
 use Rattle.prelude.specs.Splice.{splice}
 use Rattle.prelude.specs.declared.refusals.Refusal.{Refusal}
 use Rattle.texts.specs.Notes.{no_zero, note_ok, most_text}
@@ -12,7 +12,7 @@ use Rattle.book.specs.declared.types.Settings.{Settings}
 use Rattle.book.specs.Books.{most_book_bytes}
 use Rattle.writer.specs.Writing.{open_bytes, end_bytes, open_gives, open_leaves, add_gives, add_leaves, close_gives, close_leaves}
 use Rattle.writer.specs.declared.types.Writer.{Writer}
-use Rattle.writer.specs.declared.types.WriteAnswer.{WriteAnswer}
+use Rattle.writer.specs.declared.types.WriteRefusal.{WriteRefusal}
 
 -- what is added: a record with its text and its note
 pub record Item : Type 0 where
@@ -26,9 +26,9 @@ pub data Run : Type 0 where
   refused : Refusal → Run
 
 -- after a call: on with the state that it gave and the buffer that it left
-abbrev pub after_call : WriteAnswer → List ℕ → (Writer → List ℕ → Run) → Run
-after_call (WriteAnswer.Done w) b next = next w b
-after_call (WriteAnswer.Refused e w) b next = refused e
+abbrev pub after_call : Result Writer WriteRefusal → List ℕ → (Writer → List ℕ → Run) → Run
+after_call (Ok w) b next = next w b
+after_call (Err e) b next = refused e.refusal
 
 unfoldable pub finish : Writer → List ℕ → Run
 finish w b = after_call (close_gives w (length b)) (close_leaves w b) (λ w' b'. done w' b')

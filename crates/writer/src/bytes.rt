@@ -1,19 +1,26 @@
-// Numbers that fit into a byte.
-ghost use Rattle.std.specs.Prelude.{◌≡◌, ◌-◌, ◌<◌, ◌≤◌};
+// Dates as their three bytes: the year from 1900, the month and the day.
+ghost use Rattle.std.specs.Prelude.{◌≡◌};
+ghost use Rattle.records.specs.Encoding.{date_bytes, check_off_bit, check_off_bytes};
+ghost use Rattle.records.specs.Invariants.{ThreeBytes};
+ghost use Rattle.writer.specs.Heads.{CheckFit};
 
-// A number that fits into a byte.
-pub fn small(x: u16) -> u8
-    requires { x < 256 }
-    ensures { result ≡ x }
+use days::types::Date;
+
+pub fn date_bytes(d: Date) -> [u8; 3]
+    requires { ThreeBytes d }
+    ensures { result ≡ date_bytes d }
 {
-    (x % 256) as u8
+    [(d.year - 1900) as u8, d.month as u8, d.day as u8]
 }
 
-// A year as a byte, from 1900.
-pub fn year(x: u16) -> u8
-    requires le_x { 1900 ≤ x }
-    requires x_bound { x < 2156 }
-    ensures { result ≡ x - 1900 }
+// What a to-do's check-off adds to the state, and its date.
+pub fn check_off_bytes(check_off: Option<Date>) -> (u8, [u8; 3])
+    requires { CheckFit check_off }
+    ensures mark { result.0 ≡ check_off_bit check_off }
+    ensures date { result.1 ≡ check_off_bytes check_off }
 {
-    ((x - 1900) % 256) as u8
+    match check_off {
+        Some(on) => (2, date_bytes(on)),
+        None => (0, [0, 0, 0]),
+    }
 }

@@ -1,122 +1,83 @@
-// What open, add and close decide before the first byte is written: a refusal's number, or 0.
-ghost use Rattle.std.specs.Prelude.{◌≡◌, ◌+◌, ◌≤◌, length};
-ghost use Rattle.prelude.specs.Choice.{if_b, if_lt};
-ghost use Rattle.prelude.specs.Refusals.{bad_text};
+// What open, add and close decide before the first byte is written.
+ghost use Rattle.std.specs.Prelude.{◌≡◌, ◌+◌, ◌≤◌};
 ghost use Rattle.records.specs.Fields.{fixed_of};
-ghost use Rattle.texts.specs.Notes.{no_zero, note_ok, most_text};
-ghost use Rattle.records.specs.Encoding.{type_of, encode};
-ghost use Rattle.book.specs.Books.{most_book_bytes};
+ghost use Rattle.records.specs.Encoding.{type_of};
 ghost use Rattle.writer.specs.Writing.{open_refusal, room_refusal, state_open, add_refusal, close_refusal};
 
 use crate::types::Writer;
 use book::settings::{FIRST_RECORD, settings_in_range};
 use book::types::{MOST_BOOK_BYTES, Settings};
-use prelude::refusals::{BAD_FIELD, BAD_LENGTH, BAD_SETTINGS, BAD_TEXT, NO_ROOM, NOT_OPEN};
+use prelude::refusals::Fault;
 use records::ranges::record_ok;
 use records::types::Record;
 use texts::rules::{MOST_TEXT, no_zero, note_ok};
 
-pub fn open_refusal(s: Settings, size: usize) -> u32
+pub fn judge_open(s: Settings, size: usize) -> Result<(), Fault>
     ensures { result ≡ open_refusal s size }
 {
-    if settings_in_range(s) {
-        if size < 15 {
-            return NO_ROOM;
-        }
-        return 0;
+    if !settings_in_range(s) {
+        return Err(Fault::BadSettings);
     }
-    BAD_SETTINGS
+    if size < 15 {
+        return Err(Fault::NoRoom);
+    }
+    Ok(())
 }
 
 fn is_open(w: Writer) -> bool
     ensures { result ≡ state_open w }
 {
-    if w.used < FIRST_RECORD {
-        return false;
-    }
-    if w.closed {
-        return false;
-    }
-    true
+    FIRST_RECORD <= w.used && !w.closed
 }
 
-// The greatest length of a book in a buffer of a size.
-fn longest_in(size: usize) -> usize
-    ensures { result ≡ if_lt size most_book_bytes size most_book_bytes }
-{
-    if size < MOST_BOOK_BYTES {
-        return size;
-    }
-    MOST_BOOK_BYTES
-}
-
-// 12 where the bytes used, some more and the end record exceed the buffer or 65,535.
-fn room_refusal(size: usize, used: usize, more: usize) -> u32
+// Whether the bytes used, some more and the end record exceed neither the buffer nor 65,535.
+fn judge_room(size: usize, used: usize, more: usize) -> Result<(), Fault>
     requires { more ≤ 1000 }
     ensures { result ≡ room_refusal size (used + more) }
 {
-    if MOST_BOOK_BYTES < used {
-        return NO_ROOM;
+    let end = used.saturating_add(more + 3);
+    if size.min(MOST_BOOK_BYTES) < end {
+        return Err(Fault::NoRoom);
     }
-    let end = used + more + 3;
-    if longest_in(size) < end {
-        return NO_ROOM;
-    }
-    0
+    Ok(())
 }
 
+// Kept: by kind here, by type byte in records' `fixed_of`: to call that, the six kinds would be matched to their bytes, in as many arms.
 fn fixed_size(r: Record) -> usize
-    ensures { result ≡ fixed_of (type_of r) }
+    ensures value { result ≡ fixed_of (type_of r) }
+    ensures most { result ≤ 17 }
 {
     match r {
         Record::Dated(_) => 12,
-        Record::Weekly(_) => 16,
-        Record::MonthlyByDate(_) => 16,
-        Record::MonthlyByPosition(_) => 17,
-        Record::Yearly(_) => 17,
+        Record::Weekly(_) | Record::MonthlyByDate(_) => 16,
+        Record::MonthlyByPosition(_) | Record::Yearly(_) => 17,
         Record::ToDo(_) => 11,
     }
 }
 
-// What is asked of text, note and room.
-fn texts_refusal(used: usize, size: usize, r: Record, text: &[u8], note: &[u8]) -> u32
-    requires { length text.now ≤ most_text }
-    ensures { result ≡
-        if_b (no_zero text.now)
-        (if_b (note_ok note.now) (room_refusal size (used + length (encode r text.now note.now))) bad_text)
-        bad_text }
-{
-    if no_zero(text) {
-        if note_ok(note) {
-            let fixed = fixed_size(r);
-            let more = 3 + fixed + text.len() + note.len();
-            return room_refusal(size, used, more);
-        }
-        return BAD_TEXT;
-    }
-    BAD_TEXT
-}
-
-pub fn add_refusal(w: Writer, size: usize, r: Record, text: &[u8], note: &[u8]) -> u32
+pub fn judge_add(w: Writer, size: usize, r: Record, text: &[u8], note: &[u8]) -> Result<(), Fault>
     ensures { result ≡ add_refusal w size r text.now note.now }
 {
-    if is_open(w) {
-        if MOST_TEXT < text.len() {
-            return BAD_LENGTH;
-        }
-        if record_ok(r) {
-            return texts_refusal(w.used, size, r, text, note);
-        }
-        return BAD_FIELD;
+    if !is_open(w) {
+        return Err(Fault::NotOpen);
     }
-    NOT_OPEN
+    if MOST_TEXT < text.len() {
+        return Err(Fault::BadLength);
+    }
+    if !record_ok(r) {
+        return Err(Fault::BadField);
+    }
+    if !no_zero(text) || !note_ok(note) {
+        return Err(Fault::BadText);
+    }
+    judge_room(size, w.used, 3 + fixed_size(r) + text.len() + note.len())
 }
 
-pub fn close_refusal(w: Writer, size: usize) -> u32
+pub fn judge_close(w: Writer, size: usize) -> Result<(), Fault>
     ensures { result ≡ close_refusal w size }
 {
-    if is_open(w) {
-        return room_refusal(size, w.used, 0);
+    if !is_open(w) {
+        return Err(Fault::NotOpen);
     }
-    NOT_OPEN
+    judge_room(size, w.used, 0)
 }

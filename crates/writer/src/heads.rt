@@ -1,141 +1,118 @@
-// The head and the fixed bytes of each kind of record, as one array.
-ghost use Rattle.std.specs.Prelude.{◌≡◌, ◌≤◌, ◌<◌};
-ghost use Rattle.texts.specs.Notes.{most_text, most_note};
+// The head and the fixed bytes of each kind of record.
+ghost use Rattle.std.specs.Prelude.{◌≡◌, length};
+ghost use Rattle.records.specs.Encoding.{from_start};
 ghost use Rattle.records.specs.declared.types.Record.{Record};
-ghost use Rattle.writer.specs.Heads.{record_head, short_head, long_head, to_do_head, DatedFit, RepeatFit, ToDoFit};
+ghost use Rattle.writer.specs.Heads.{record_head, DatedFit, RepeatFit, ToDoFit, Lengths};
 
-use crate::bytes::{small, year};
-use prelude::numbers::{bit_of, high, low};
-use records::types::{CheckOff, Dated, Repeat, ToDo};
+use crate::bytes::{check_off_bytes, date_bytes};
+use records::types::{Dated, Repeat, ToDo};
 
-pub fn dated_head(d: Dated, t: u16, n: u16) -> [u8; 15]
-    requires dated_fit { DatedFit d }
-    requires t_le_most_text { t ≤ most_text }
-    requires n_le_most_note { n ≤ most_note }
-    ensures { result ≡ record_head (Record.Dated d) t n }
+// A record's text and note, not too long.
+#[derive(Clone, Copy)]
+pub struct Texts<'a> {
+    pub text: &'a [u8],
+    pub note: &'a [u8],
+    ghost lengths: { Lengths text.now note.now },
+}
+
+impl<'a> Texts<'a> {
+    pub fn text_length(self) -> u16
+        ensures { result ≡ length self.entry.text.now }
+    {
+        self.text.len() as u16
+    }
+
+    pub fn note_length(self) -> u16
+        ensures { result ≡ length self.entry.note.now }
+    {
+        self.note.len() as u16
+    }
+}
+
+pub fn dated_head(d: Dated, texts: Texts<'_>) -> [u8; 15]
+    requires { DatedFit d }
+    ensures { result ≡ record_head (Record.Dated d) (length texts.entry.text.now) (length texts.entry.note.now) }
 {
-    let l = 12 + t + n;
+    let t = texts.text_length();
+    let n = texts.note_length();
+    let [low, high] = (12 + t + n).to_le_bytes();
+    let [year, month, day] = date_bytes(d.date);
+    let [start_high, start_low] = d.start.0.to_be_bytes();
+    let [end_low, end_high] = d.end.0.to_le_bytes();
+    let [note_low, note_high] = n.to_le_bytes();
     [
         1,
-        low(l),
-        high(l),
-        bit_of(d.alarm),
-        year(d.date.year),
-        small(d.date.month),
-        small(d.date.day),
-        high(d.start.0),
-        low(d.start.0),
-        low(d.end.0),
-        high(d.end.0),
-        small(d.lead),
-        small(t),
-        low(n),
-        high(n),
+        low,
+        high,
+        u8::from(d.alarm),
+        year,
+        month,
+        day,
+        start_high,
+        start_low,
+        end_low,
+        end_high,
+        d.lead as u8,
+        t as u8,
+        note_low,
+        note_high,
     ]
 }
 
-// Types 2 and 3: one number before the start minute.
-pub fn short_head(kind: u8, a: u16, r: Repeat, t: u16, n: u16) -> [u8; 19]
-    requires repeat_fit { RepeatFit r }
-    requires a_bound { a < 256 }
-    requires t_le_most_text { t ≤ most_text }
-    requires n_le_most_note { n ≤ most_note }
-    ensures { result ≡ short_head kind a r t n }
+// What types 2 to 5 share, from the start minute on.
+pub fn from_start(r: Repeat, texts: Texts<'_>) -> [u8; 14]
+    requires { RepeatFit r }
+    ensures { result ≡ from_start r (length texts.entry.text.now) (length texts.entry.note.now) }
 {
-    let l = 16 + t + n;
+    let t = texts.text_length();
+    let n = texts.note_length();
+    let [start_high, start_low] = r.start.0.to_be_bytes();
+    let [first_year, first_month, first_day] = date_bytes(r.first);
+    let [end_low, end_high] = r.end.0.to_le_bytes();
+    let [last_year, last_month, last_day] = date_bytes(r.last);
+    let [note_low, note_high] = n.to_le_bytes();
     [
-        kind,
-        low(l),
-        high(l),
-        bit_of(r.alarm),
-        small(a),
-        high(r.start.0),
-        low(r.start.0),
-        year(r.first.year),
-        small(r.first.month),
-        small(r.first.day),
-        low(r.end.0),
-        high(r.end.0),
-        year(r.last.year),
-        small(r.last.month),
-        small(r.last.day),
-        small(r.lead),
-        small(t),
-        low(n),
-        high(n),
+        start_high,
+        start_low,
+        first_year,
+        first_month,
+        first_day,
+        end_low,
+        end_high,
+        last_year,
+        last_month,
+        last_day,
+        r.lead as u8,
+        t as u8,
+        note_low,
+        note_high,
     ]
 }
 
-// Types 4 and 5: two numbers before it.
-pub fn long_head(kind: u8, a: u16, b: u16, r: Repeat, t: u16, n: u16) -> [u8; 20]
-    requires repeat_fit { RepeatFit r }
-    requires a_bound { a < 256 }
-    requires b_bound { b < 256 }
-    requires t_le_most_text { t ≤ most_text }
-    requires n_le_most_note { n ≤ most_note }
-    ensures { result ≡ long_head kind a b r t n }
+pub fn to_do_head(d: ToDo, texts: Texts<'_>) -> [u8; 14]
+    requires { ToDoFit d }
+    ensures { result ≡ record_head (Record.ToDo d) (length texts.entry.text.now) (length texts.entry.note.now) }
 {
-    let l = 17 + t + n;
-    [
-        kind,
-        low(l),
-        high(l),
-        bit_of(r.alarm),
-        small(a),
-        small(b),
-        high(r.start.0),
-        low(r.start.0),
-        year(r.first.year),
-        small(r.first.month),
-        small(r.first.day),
-        low(r.end.0),
-        high(r.end.0),
-        year(r.last.year),
-        small(r.last.month),
-        small(r.last.day),
-        small(r.lead),
-        small(t),
-        low(n),
-        high(n),
-    ]
-}
-
-fn to_do_bytes(d: ToDo, bit: u8, y: u8, m: u8, day: u8, t: u16, n: u16) -> [u8; 14]
-    requires to_do_fit { ToDoFit d }
-    requires bit_bound { bit ≤ 2 }
-    requires t_le_most_text { t ≤ most_text }
-    requires n_le_most_note { n ≤ most_note }
-    ensures { result ≡ to_do_head d bit y m day t n }
-{
-    let l = 11 + t + n;
-    let carry = bit_of(d.carry_forward);
+    let t = texts.text_length();
+    let n = texts.note_length();
+    let [low, high] = (11 + t + n).to_le_bytes();
+    let [year, month, day] = date_bytes(d.start);
+    let (mark, [done_year, done_month, done_day]) = check_off_bytes(d.check_off);
+    let [note_low, note_high] = n.to_le_bytes();
     [
         6,
-        low(l),
-        high(l),
-        carry + bit,
-        small(d.priority),
-        year(d.start.year),
-        small(d.start.month),
-        small(d.start.day),
-        y,
-        m,
+        low,
+        high,
+        u8::from(d.carry_forward) + mark,
+        d.priority as u8,
+        year,
+        month,
         day,
-        small(t),
-        low(n),
-        high(n),
+        done_year,
+        done_month,
+        done_day,
+        t as u8,
+        note_low,
+        note_high,
     ]
-}
-
-pub fn to_do_head(d: ToDo, t: u16, n: u16) -> [u8; 14]
-    requires to_do_fit { ToDoFit d }
-    requires t_le_most_text { t ≤ most_text }
-    requires n_le_most_note { n ≤ most_note }
-    ensures { result ≡ record_head (Record.ToDo d) t n }
-{
-    let c = d.check_off;
-    let CheckOff::On(on) = c else {
-        return to_do_bytes(d, 0, 0, 0, 0, t, n);
-    };
-    to_do_bytes(d, 2, year(on.year), small(on.month), small(on.day), t, n)
 }

@@ -1,101 +1,66 @@
 // Putting a record's bytes into the buffer, whose room was tested before.
-ghost use Rattle.std.specs.Prelude.{◌≡◌, ◌++◌, ◌+◌, ◌<◌, ◌≤◌, length, true};
-ghost use Rattle.prelude.specs.Splice.{splice};
+ghost use Rattle.std.specs.Prelude.{◌≡◌, ◌++◌, ◌+◌, ◌≤◌, length, true};
 ghost use Rattle.records.specs.Ranges.{record_ok};
 ghost use Rattle.records.specs.Encoding.{encode};
-ghost use Rattle.records.specs.declared.types.Record.{Record};
-ghost use Rattle.writer.specs.Heads.{record_head, short_head, long_head, DatedFit, RepeatFit, ToDoFit, Lengths, Put};
+ghost use Rattle.writer.specs.Heads.{repeat_head, RepeatFit, Put};
 
-use crate::heads::{dated_head, long_head, short_head, to_do_head};
+use crate::heads::{Texts, dated_head, from_start, to_do_head};
 use prelude::slices::copy_in;
-use records::types::{Dated, Record, Repeat, ToDo};
+use records::types::{Record, Repeat};
 
-// Three pieces, one behind the other.
-fn put_three(buf: &mut [u8], at: usize, a: &[u8], b: &[u8], c: &[u8]) -> usize
-    requires { at + length (a.now ++ (b.now ++ c.now)) ≤ length buf.old }
-    ensures next { result ≡ at + length (a.now ++ (b.now ++ c.now)) }
-    ensures put { buf.new ≡ splice buf.old at (a.now ++ (b.now ++ c.now)) }
+// The bytes before a record's text, then its text and its note.
+// Kept: buffer and place stand apart, here and below, as `copy_in` takes them: a struct of both would be taken apart at each call of it, and built anew behind.
+fn put_with_texts(buf: &mut [u8], at: usize, head: &[u8], texts: Texts<'_>) -> usize
+    requires { at + length (head.now ++ (texts.text.now ++ texts.note.now)) ≤ length buf.old }
+    ensures { Put at (head.now ++ (texts.entry.text.now ++ texts.entry.note.now)) buf.old result buf.new }
 {
-    let second = copy_in(buf, at, a);
-    let third = copy_in(buf, second, b);
-    copy_in(buf, third, c)
+    let second = copy_in(buf, at, head);
+    let third = copy_in(buf, second, texts.text);
+    copy_in(buf, third, texts.note)
 }
 
-fn put_dated(buf: &mut [u8], at: usize, d: Dated, text: &[u8], note: &[u8]) -> usize
-    requires dated_fit { DatedFit d }
-    requires lengths { Lengths text.now note.now }
-    requires note_in_bounds { at + length (record_head (Record.Dated d) (length text.now) (length note.now) ++ (text.now ++ note.now)) ≤ length buf.old }
-    ensures { Put at (record_head (Record.Dated d) (length text.now) (length note.now) ++ (text.now ++ note.now)) buf.old result buf.new }
-{
-    let head = dated_head(d, text.len() as u16, note.len() as u16);
-    put_three(buf, at, &head, text, note)
-}
-
-fn put_short(
+// Types 2 to 5: the numbers before the start minute, then what they share.
+fn put_repeat(
     buf: &mut [u8],
     at: usize,
     kind: u8,
-    a: u16,
+    numbers: &[u8],
     r: Repeat,
-    text: &[u8],
-    note: &[u8],
+    texts: Texts<'_>,
 ) -> usize
     requires repeat_fit { RepeatFit r }
-    requires a_bound { a < 256 }
-    requires lengths { Lengths text.now note.now }
-    requires note_in_bounds { at + length (short_head kind a r (length text.now) (length note.now) ++ (text.now ++ note.now)) ≤ length buf.old }
-    ensures { Put at (short_head kind a r (length text.now) (length note.now) ++ (text.now ++ note.now)) buf.old result buf.new }
+    requires few { length numbers.now ≤ 2 }
+    requires inside { at + length (repeat_head kind numbers.now r (length texts.text.now) (length texts.note.now) ++ (texts.text.now ++ texts.note.now)) ≤ length buf.old }
+    ensures { Put at (repeat_head kind numbers.now r (length texts.entry.text.now) (length texts.entry.note.now) ++ (texts.entry.text.now ++ texts.entry.note.now)) buf.old result buf.new }
 {
-    let head = short_head(kind, a, r, text.len() as u16, note.len() as u16);
-    put_three(buf, at, &head, text, note)
-}
-
-fn put_long(
-    buf: &mut [u8],
-    at: usize,
-    kind: u8,
-    a: u16,
-    b: u16,
-    r: Repeat,
-    text: &[u8],
-    note: &[u8],
-) -> usize
-    requires repeat_fit { RepeatFit r }
-    requires a_bound { a < 256 }
-    requires b_bound { b < 256 }
-    requires lengths { Lengths text.now note.now }
-    requires note_in_bounds { at + length (long_head kind a b r (length text.now) (length note.now) ++ (text.now ++ note.now)) ≤ length buf.old }
-    ensures { Put at (long_head kind a b r (length text.now) (length note.now) ++ (text.now ++ note.now)) buf.old result buf.new }
-{
-    let head = long_head(kind, a, b, r, text.len() as u16, note.len() as u16);
-    put_three(buf, at, &head, text, note)
-}
-
-fn put_to_do(buf: &mut [u8], at: usize, d: ToDo, text: &[u8], note: &[u8]) -> usize
-    requires to_do_fit { ToDoFit d }
-    requires lengths { Lengths text.now note.now }
-    requires note_in_bounds { at + length (record_head (Record.ToDo d) (length text.now) (length note.now) ++ (text.now ++ note.now)) ≤ length buf.old }
-    ensures { Put at (record_head (Record.ToDo d) (length text.now) (length note.now) ++ (text.now ++ note.now)) buf.old result buf.new }
-{
-    let head = to_do_head(d, text.len() as u16, note.len() as u16);
-    put_three(buf, at, &head, text, note)
+    let length = 15 + numbers.len() as u16 + texts.text_length() + texts.note_length();
+    let [low, high] = length.to_le_bytes();
+    let head = [kind, low, high, u8::from(r.alarm)];
+    let second = copy_in(buf, at, &head);
+    let third = copy_in(buf, second, numbers);
+    put_with_texts(buf, third, &from_start(r, texts), texts)
 }
 
 // A record with its text and its note.
-pub fn put_record(buf: &mut [u8], at: usize, r: Record, text: &[u8], note: &[u8]) -> usize
+// Kept: each kind's type byte stands once here or in `heads`, beside its bytes; a function of the kind would match the six again.
+pub fn put_record(buf: &mut [u8], at: usize, r: Record, texts: Texts<'_>) -> usize
     requires r_value { record_ok r ≡ true }
-    requires lengths { Lengths text.now note.now }
-    requires note_in_bounds { at + length (encode r text.now note.now) ≤ length buf.old }
-    ensures { Put at (encode r text.now note.now) buf.old result buf.new }
+    requires inside { at + length (encode r texts.text.now texts.note.now) ≤ length buf.old }
+    ensures { Put at (encode r texts.entry.text.now texts.entry.note.now) buf.old result buf.new }
 {
     match r {
-        Record::Dated(d) => put_dated(buf, at, d, text, note),
-        Record::Weekly(w) => put_short(buf, at, 2, w.weekday, w.repeat, text, note),
-        Record::MonthlyByDate(m) => put_short(buf, at, 3, m.day, m.repeat, text, note),
-        Record::MonthlyByPosition(m) => put_long(
-            buf, at, 4, m.week, m.weekday, m.repeat, text, note,
+        Record::Dated(d) => put_with_texts(buf, at, &dated_head(d, texts), texts),
+        Record::Weekly(w) => put_repeat(buf, at, 2, &[w.weekday as u8], w.repeat, texts),
+        Record::MonthlyByDate(m) => put_repeat(buf, at, 3, &[m.day as u8], m.repeat, texts),
+        Record::MonthlyByPosition(m) => put_repeat(
+            buf,
+            at,
+            4,
+            &[m.week as u8, m.weekday as u8],
+            m.repeat,
+            texts,
         ),
-        Record::Yearly(y) => put_long(buf, at, 5, y.month, y.day, y.repeat, text, note),
-        Record::ToDo(d) => put_to_do(buf, at, d, text, note),
+        Record::Yearly(y) => put_repeat(buf, at, 5, &[y.month as u8, y.day as u8], y.repeat, texts),
+        Record::ToDo(d) => put_with_texts(buf, at, &to_do_head(d, texts), texts),
     }
 }

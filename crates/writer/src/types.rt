@@ -1,15 +1,16 @@
 // The writing state, document 01 "Writing": the bytes used, and whether the book is closed.
 use prelude::refusals::Refusal;
 
+// Kept: `used` stands beside the lent buffer, and `closed` beside `used`, as in `apptbook_writer` of the C interface, where any state comes in and is answered.
 #[derive(Clone, Copy)]
 pub struct Writer {
     pub used: usize,
     pub closed: bool,
 }
 
-// What a call gives: done with the next state, or refused with the state as it came.
+// Why a call is refused, with the state as it came.
 #[derive(Clone, Copy)]
-pub enum WriteAnswer {
-    Done(Writer),
-    Refused(Refusal, Writer),
+pub struct WriteRefusal {
+    pub refusal: Refusal,
+    pub writer: Writer,
 }

@@ -1,6 +1,6 @@
 -- Two files with the same first bytes, up to the end record of a book or further: the same settings, the same records and the same walk in both.
 -- Assumes nothing.
-use Rattle.std.specs.Prelude.{ℕ, suc, ◌+◌, ◌<◌, ◌≤◌, ◌≡◌, List, take}
+use Rattle.std.specs.Prelude.{Ok, Some, ℕ, suc, ◌+◌, ◌<◌, ◌≤◌, ◌≡◌, List, take}
 use Rattle.std.proofs.Common.{sym, ◌∙◌, arith, zero-add, get_or-take}
 use Rattle.std.proofs.Math.Path.{ap}
 use Rattle.std.proofs.Math.ListN.{length}
@@ -17,8 +17,6 @@ use Rattle.book.specs.Invariants.{RecordAt}
 use Rattle.book.proofs.Laws.Books.{refused_not_accepted}
 use Rattle.book.proofs.Laws.Fillers.{Ended, walk_ended}
 use Rattle.book.specs.declared.types.Book.{Book}
-use Rattle.book.specs.declared.types.BookAnswer.{BookAnswer}
-use Rattle.book.specs.declared.types.StepAnswer.{StepAnswer}
 
 -- two files with the same first m bytes
 pub record Alike (m : ℕ) (f g : List ℕ) : Type 0 where
@@ -86,15 +84,15 @@ module _ (m : ℕ) (f g : List ℕ) (s : Alike m f g) where
 
   -- the walk, to the same end
   pub walk-alike :
-      (n at : ℕ) {b : Book} → At f n at → At g n at → (w : Walk) → walk_from f n at ≡ w → counted f n w ≡ BookAnswer.Accepted b → end_in w ≤ m
+      (n at : ℕ) {b : Book} → At f n at → At g n at → (w : Walk) → walk_from f n at ≡ w → counted f n w ≡ Ok b → end_in w ≤ m
       → walk_from g n at ≡ w
   unfolding counted end_in
   walk-alike n at a a' (more p w) e c l =
       let q = walk_met f n at a e in
       let z : Ended f (next_place f at) w = walk_ended f (suc n) (next_place f at) q.1.1.0 w q.1.1.1 c in
       let there : next_place f at ≤ m = omega (arith, z.behind) in
-      let y : step_at g at ≡ StepAnswer.Record (next_place f at) =
-      record-step g at (record-alike at (omega arith) there q.1.0) ∙ ap (λ (k : ℕ). StepAnswer.Record (at + 3 + k)) (length-alike at (omega arith)) in
+      let y : step_at g at ≡ Ok (Some (next_place f at)) =
+      record-step g at (record-alike at (omega arith) there q.1.0) ∙ ap (λ (k : ℕ). Ok (Some (at + 3 + k))) (length-alike at (omega arith)) in
       rw q.0 (walk-record a' y ∙ ap (more at) (walk-alike (suc n) (next_place f at) q.1.1.0 (at_next a' y) w q.1.1.1 c l))
   walk-alike n at a a' (ended p) e c l =
       let q = walk_met f n at a e in

@@ -1,12 +1,11 @@
 -- Laws of an accepted book: its count and its records, and the cursor that walks them without starting over.
 -- Assumes nothing.
-use Rattle.std.specs.Prelude.{ℕ, suc, ◌+◌, ◌<◌, ◌≤◌, ◌≡◌, refl, true, List, [], ◌∷◌}
+use Rattle.std.specs.Prelude.{Result, Ok, Err, Option, Some, None, ℕ, suc, ◌+◌, ◌<◌, ◌≤◌, ◌≡◌, refl, true, List, [], ◌∷◌}
 use Rattle.std.proofs.Common.{sym, ◌∙◌, arith, add-zero, zero-add, drop-cons}
 use Rattle.std.proofs.Math.Path.{ap}
 use Rattle.std.proofs.lemmas.Bool.{false≢true}
 use lib.ListN.{length, get_or, drop}
-use Rattle.prelude.proofs.Laws.Choice.{lt_skip, b_take, constructors_differ}
-use Rattle.prelude.specs.declared.refusals.Verdict.{Verdict}
+use Rattle.prelude.proofs.Laws.Choice.{lt_skip, b_take}
 use Rattle.prelude.specs.declared.refusals.Refusal.{Refusal}
 use Rattle.book.specs.Settings.{book_identified, settings_of, settings_ok, first_record}
 use Rattle.book.specs.Walk.{next_place, step_at, Walk, more, ended, stopped, walk_from, walk_of, places_in}
@@ -16,23 +15,20 @@ use Rattle.book.proofs.Laws.Walk.{At, at_first, at_next, step-record, walk-recor
 use Rattle.book.specs.Invariants.{RecordAt, AcceptedBook}
 use Rattle.book.specs.declared.types.Settings.{Settings}
 use Rattle.book.specs.declared.types.Book.{Book}
-use Rattle.book.specs.declared.types.BookAnswer.{BookAnswer}
-use Rattle.book.specs.declared.types.StepAnswer.{StepAnswer}
+use Rattle.prelude.specs.Verdicts.{Verdict}
+use Rattle.prelude.proofs.Laws.Results.{err_not_ok, ok_inj}
 
-pub refused_not_accepted : {e : Refusal} {b : Book} → BookAnswer.Refused e ≡ BookAnswer.Accepted b → ⊥
-refused_not_accepted c = constructors_differ cc
+pub refused_not_accepted : {e : Refusal} {b : Book} → ◌≡◌ {A = Result Book Refusal} (Err e) (Ok b) → ⊥
+refused_not_accepted = err_not_ok
 
-accepted_inj : {a b : Book} → BookAnswer.Accepted a ≡ BookAnswer.Accepted b → a ≡ b
-accepted_inj e = cc
-
-given : (s : Settings) (n : ℕ) (v : Verdict) (b : Book) → accepted s n v ≡ BookAnswer.Accepted b → (b.settings ≡ s) × (b.records ≡ n)
+given : (s : Settings) (n : ℕ) (v : Verdict) (b : Book) → accepted s n v ≡ Ok b → (b.settings ≡ s) × (b.records ≡ n)
 unfolding accepted
-given s n Verdict.Fine b e =
-    let q : ◌≡◌ {A = Book} (record { settings = s; records = n }) b = accepted_inj e in
+given s n (Ok tt) b e =
+    let q : ◌≡◌ {A = Book} (record { settings = s; records = n }) b = ok_inj e in
     (ap (λ (x : Book). x.settings) (sym q), ap (λ (x : Book). x.records) (sym q))
-given s n (Verdict.Refused r) b e = absurd (refused_not_accepted e)
+given s n (Err r) b e = absurd (refused_not_accepted e)
 
-counted-accepted : (f : List ℕ) (n : ℕ) (w : Walk) (b : Book) → counted f n w ≡ BookAnswer.Accepted b → (b.settings ≡ settings_of f) × (b.records ≡ n + length (places_in w))
+counted-accepted : (f : List ℕ) (n : ℕ) (w : Walk) (b : Book) → counted f n w ≡ Ok b → (b.settings ≡ settings_of f) × (b.records ≡ n + length (places_in w))
 unfolding counted places_in
 counted-accepted f n (more at w) b e =
     let h = counted-accepted f (suc n) w b e in (h.0, h.1 ∙ omega arith)
@@ -44,7 +40,7 @@ pub settings_long : (f : List ℕ) → settings_ok f ≡ true → first_record �
 unfolding settings_ok
 settings_long f e = (lt_skip (length f) first_record _ _ false≢true e).0
 
-pub book_accepted : (f : List ℕ) {b : Book} → book_of f ≡ BookAnswer.Accepted b → AcceptedBook f b
+pub book_accepted : (f : List ℕ) {b : Book} → book_of f ≡ Ok b → AcceptedBook f b
 unfolding book_of places_of
 book_accepted f {b} e =
     let e1 = lt_skip most_book_bytes (length f) _ _ refused_not_accepted e in
@@ -61,7 +57,7 @@ book_accepted f {b} e =
     }
 
 -- what is behind its settings
-pub walk-counted : (f : List ℕ) {b : Book} → book_of f ≡ BookAnswer.Accepted b → counted f 0 (walk_of f) ≡ BookAnswer.Accepted b
+pub walk-counted : (f : List ℕ) {b : Book} → book_of f ≡ Ok b → counted f 0 (walk_of f) ≡ Ok b
 unfolding book_of
 walk-counted f h =
     let e1 = lt_skip most_book_bytes (length f) _ _ refused_not_accepted h in
@@ -79,7 +75,7 @@ cursor_first f h = record { here = at_first h; ahead = refl }
 
 -- a record ahead
 pub record Ahead (f : List ℕ) (n at : ℕ) : Type 0 where
-  pub step : step_at f at ≡ StepAnswer.Record (next_place f at)
+  pub step : step_at f at ≡ Ok (Some (next_place f at))
   pub place : get_or (places_of f) n 0 ≡ at
   pub entry : RecordAt f at
   pub next : Cursor f (suc n) (next_place f at)
@@ -91,11 +87,11 @@ module _ (f : List ℕ) (n at : ℕ) (c : Cursor f n at) (h : n < length (places
   no-places : {w : Walk} → walk_from f n at ≡ w → places_in w ≡ [] → ⊥
   no-places e p = let q : length (get_or (places_of f) n 0 ∷ drop (suc n) (places_of f)) ≡ 0 = ap length (heads e ∙ p) in omega arith
 
-  by-step : (x : StepAnswer) → step_at f at ≡ x → Ahead f n at
+  by-step : (x : Result (Option ℕ) Refusal) → step_at f at ≡ x → Ahead f n at
   unfolding places_in
-  by-step (StepAnswer.Record m) e =
+  by-step (Ok (Some m)) e =
       let s : RecordAt f at × (m ≡ next_place f at) = step-record f at e in
-      let e' : step_at f at ≡ StepAnswer.Record (next_place f at) = e ∙ ap StepAnswer.Record s.1 in
+      let e' : step_at f at ≡ Ok (Some (next_place f at)) = e ∙ ap (λ (q : ℕ). Ok (Some q)) s.1 in
       let q : get_or (places_of f) n 0 ∷ drop (suc n) (places_of f) ≡ at ∷ places_in (walk_from f (suc n) (next_place f at)) = heads (walk-record c.here e') in
       record {
         step = e';
@@ -103,8 +99,8 @@ module _ (f : List ℕ) (n at : ℕ) (c : Cursor f n at) (h : n < length (places
         entry = s.0;
         next = record { here = at_next c.here e'; ahead = cc };
       }
-  by-step StepAnswer.End e = absurd (no-places (walk_end c.here e) refl)
-  by-step (StepAnswer.Stopped r) e = absurd (no-places (walk-stop c.here e) refl)
+  by-step (Ok None) e = absurd (no-places (walk_end c.here e) refl)
+  by-step (Err r) e = absurd (no-places (walk-stop c.here e) refl)
 
   pub cursor-ahead : Ahead f n at
   cursor-ahead = by-step (step_at f at) refl

@@ -1,8 +1,8 @@
 -- Laws of the records of an accepted book: each is judged fine, and its text and note lie in the file.
 -- Assumes nothing.
-use Rattle.std.specs.Prelude.{ℕ, zero, suc, ◌+◌, ◌<◌, ◌≤◌, ◌≡◌, refl, List, length, get_or}
+use Rattle.std.specs.Prelude.{Result, Ok, Err, ℕ, zero, suc, ◌+◌, ◌<◌, ◌≤◌, ◌≡◌, refl, List, length, get_or}
 use Rattle.std.proofs.Common.{arith, length-take, length-drop}
-use Rattle.prelude.proofs.Laws.Choice.{lt_take, constructors_differ}
+use Rattle.prelude.proofs.Laws.Choice.{lt_take}
 use Rattle.prelude.specs.declared.refusals.Refusal.{Refusal}
 use Rattle.records.specs.Fields.{fixed_of, text_length, note_length}
 use Rattle.records.proofs.Laws.Judged.{Judged, body_judged}
@@ -10,10 +10,10 @@ use Rattle.book.specs.Walk.{type_at, body_length_at, body_at, next_place}
 use Rattle.book.specs.Books.{book_of, entry_at, places_of, record_from, record_answer}
 use Rattle.book.specs.Invariants.{RecordAt, AcceptedBook}
 use Rattle.book.proofs.Laws.Books.{book_accepted, Cursor, cursor_first, Ahead, cursor-ahead}
-use Rattle.book.specs.declared.types.BookAnswer.{BookAnswer}
 use Rattle.book.specs.declared.types.Entry.{Entry}
-use Rattle.book.specs.declared.types.RecordAnswer.{RecordAnswer}
 use Rattle.book.specs.Settings.{first_record}
+use Rattle.book.specs.declared.types.Book.{Book}
+use Rattle.prelude.proofs.Laws.Results.{err_not_ok, ok_inj}
 
 -- a cursor for each record
 pub record Reached (f : List ℕ) (n : ℕ) : Type 0 where
@@ -70,32 +70,26 @@ entry_ends f at r =
 pub entry_inside : (f : List ℕ) (at : ℕ) → RecordAt f at → Inside f (entry_at f at)
 entry_inside f at r = record { text = text_then_note f at; note = omega (arith, entry_ends f at r, r.body) }
 
-refused_not : {e : Refusal} {x : Entry} → RecordAnswer.Refused e ≡ RecordAnswer.Record x → ⊥
-refused_not c = constructors_differ cc
-
-record_inj : {a b : Entry} → RecordAnswer.Record a ≡ RecordAnswer.Record b → a ≡ b
-record_inj e = cc
-
 -- which record an answer gives
 pub record FoundEntry (f : List ℕ) (k : ℕ) (e : Entry) : Type 0 where
   pub long : first_record ≤ length f
   pub number : k < length (places_of f)
   pub entry : entry_at f (get_or (places_of f) k 0) ≡ e
 
-found_from : (f : List ℕ) (k : ℕ) {e : Entry} (b : BookAnswer) → book_of f ≡ b → record_from f k b ≡ RecordAnswer.Record e → FoundEntry f k e
+found_from : (f : List ℕ) (k : ℕ) {e : Entry} (b : Result Book Refusal) → book_of f ≡ b → record_from f k b ≡ Ok e → FoundEntry f k e
 unfolding record_from
-found_from f k (BookAnswer.Accepted b) q h =
+found_from f k (Ok b) q h =
     let a : AcceptedBook f b = book_accepted f q in
-    let p = lt_take k b.records _ _ refused_not h in
-    record { long = a.long; number = omega (arith, p.0, a.count); entry = record_inj p.1 }
-found_from f k (BookAnswer.Refused r) q h = absurd (refused_not h)
+    let p = lt_take k b.records _ _ err_not_ok h in
+    record { long = a.long; number = omega (arith, p.0, a.count); entry = ok_inj p.1 }
+found_from f k (Err r) q h = absurd (err_not_ok h)
 
-pub record_found : (f : List ℕ) (k : ℕ) {e : Entry} → record_answer f k ≡ RecordAnswer.Record e → FoundEntry f k e
+pub record_found : (f : List ℕ) (k : ℕ) {e : Entry} → record_answer f k ≡ Ok e → FoundEntry f k e
 unfolding record_answer
 record_found f k h = found_from f k (book_of f) refl h
 
 -- the text and the note of a record at a number lie in the file
-pub record_inside : (f : List ℕ) (k : ℕ) {e : Entry} → record_answer f k ≡ RecordAnswer.Record e → Inside f e
+pub record_inside : (f : List ℕ) (k : ℕ) {e : Entry} → record_answer f k ≡ Ok e → Inside f e
 record_inside f k h =
     let r = record_found f k h in
     rw r.entry at (entry_inside f (get_or (places_of f) k 0) (record_there f r.long k r.number))

@@ -1,6 +1,6 @@
 -- Document 01, "One whole case": the book of 33 bytes, as the definitions read it; with bytes after its end record, document 02, request R-1.
 -- Assumes nothing.
-use Rattle.std.specs.Prelude.{ℕ, ◌≡◌, refl, true, false, List, [], ◌∷◌, ◌++◌, replicate}
+use Rattle.std.specs.Prelude.{Ok, Err, ℕ, ◌≡◌, refl, true, false, List, [], ◌∷◌, ◌++◌, replicate}
 use Rattle.prelude.specs.Choice.{if_lt, if_eq, if_b}
 use Rattle.prelude.specs.Refusals.{after_end, refusal_at}
 use Rattle.days.specs.Dates.{leap, month_length, real}
@@ -14,8 +14,6 @@ use Rattle.book.specs.Walk.{judge_head, body_step, step_at, walk_f, walk_from, w
 use Rattle.book.specs.Fillers.{fillers_from, after_end_record}
 use Rattle.book.specs.Books.{accepted, counted, book_of, entry_at, places_of, record_from, record_answer, record_text_in, record_note_in}
 use Rattle.book.specs.declared.types.Book.{Book}
-use Rattle.book.specs.declared.types.BookAnswer.{BookAnswer}
-use Rattle.book.specs.declared.types.RecordAnswer.{RecordAnswer}
 
 -- FF FF 01 00 01 / E0 01 1E 00 01 05 00 / 01 0F 00 01 5D 03 0F 02 58 94 02 05 03 00 00 44 65 70 / 32 00 00
 abbrev pub case : List ℕ
@@ -26,22 +24,22 @@ case =
 abbrev pub case_book : Book
 case_book = record { settings = record { start = record { 0 = 480 }; granularity = 30; alarm = true; lead = 5; carry_forward = false }; records = 1 }
 
-pub case-accepted : book_of case ≡ BookAnswer.Accepted case_book
+pub case-accepted : book_of case ≡ Ok case_book
 unfolding book_of counted accepted after_end_record fillers_from book_identified book_mark settings_ok settings_in_range settings_of flags_ok walk_of walk_from walk_f step_at judge_head body_step judge_body lengths_ok lengths_fit fields_ok texts_ok dated_of fixed_of dated_ok times_ok real month_length leap no_zero note_ok lines_of short_lines if_lt if_eq if_b
 case-accepted = refl
 
 -- filled up to a block of 128; "0 to 127 bytes", and one more; "the first that isn't 1Ah"
 pub case-filled :
-    (book_of (case ++ replicate 95 0x1A) ≡ BookAnswer.Accepted case_book) × (book_of (case ++ replicate 127 0x1A) ≡ BookAnswer.Accepted case_book)
-    × (book_of (case ++ replicate 128 0x1A) ≡ BookAnswer.Refused (refusal_at after_end 33))
-    × (book_of (case ++ (0x1A ∷ (0x00 ∷ []))) ≡ BookAnswer.Refused (refusal_at after_end 34))
+    (book_of (case ++ replicate 95 0x1A) ≡ Ok case_book) × (book_of (case ++ replicate 127 0x1A) ≡ Ok case_book)
+    × (book_of (case ++ replicate 128 0x1A) ≡ Err (refusal_at after_end 33))
+    × (book_of (case ++ (0x1A ∷ (0x00 ∷ []))) ≡ Err (refusal_at after_end 34))
 unfolding book_of counted accepted after_end_record fillers_from book_identified book_mark settings_ok settings_in_range settings_of flags_ok walk_of walk_from walk_f step_at judge_head body_step judge_body lengths_ok lengths_fit fields_ok texts_ok dated_of fixed_of dated_ok times_ok real month_length leap no_zero note_ok lines_of short_lines if_lt if_eq if_b
 case-filled = (refl, refl, refl, refl)
 
 -- 15 March 1993, 10:00 to 11:00, alarm on, lead time 5
 pub case_record_lem :
     record_answer case 0 ≡
-    RecordAnswer.Record
+    Ok
     (record {
       place = 12;
       «record» = Record.Dated (record { alarm = true; date = record { year = 1993; month = 3; day = 15 }; start = record { 0 = 600 }; end = record { 0 = 660 }; lead = 5 });

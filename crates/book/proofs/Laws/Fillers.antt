@@ -1,7 +1,7 @@
 -- Laws of the bytes after the end record: byte by byte; and an accepted book is a book that ends with its end record, and at most 127 fillers.
 -- Assumes nothing.
 use Prim.Native.Nat.{ℕ, zero, suc, ◌+◌, ◌-◌, ◌<◌, ◌≤◌}
-use Rattle.std.specs.Prelude.{◌≡◌, refl, List, ◌∷◌, ◌++◌, take, drop, replicate}
+use Rattle.std.specs.Prelude.{Ok, Err, ◌≡◌, refl, List, ◌∷◌, ◌++◌, take, drop, replicate}
 use Rattle.std.proofs.Common.{sym, ◌∙◌, ap, add-one, drop_of_length-le, take-append-drop, drop-cons}
 use native.Mathlib.Omega.{arith}
 use Rattle.std.proofs.Math.ListN.{length}
@@ -10,7 +10,6 @@ use Rattle.prelude.proofs.Laws.Choice.{is_eq, is_ne, is_ge, eq_take, lt_skip}
 use Rattle.prelude.specs.Bytes.{byte}
 use Rattle.prelude.specs.Refusals.{after_end, refusal_at}
 use Rattle.prelude.proofs.Laws.Refusals.{refused_not_fine}
-use Rattle.prelude.specs.declared.refusals.Verdict.{Verdict}
 use Rattle.book.specs.Settings.{settings_of, first_record}
 use Rattle.book.specs.Walk.{Walk, more, ended, stopped, next_place, walk_from, walk_of}
 use Rattle.book.specs.Fillers.{filler, most_fillers, fillers_from, after_end_record, end_in, fillers_of, unfilled, Filled}
@@ -19,31 +18,31 @@ use Rattle.book.proofs.Laws.Walk.{At, at_first, walk_met}
 use Rattle.book.proofs.Laws.Books.{refused_not_accepted, book_accepted, walk-counted}
 use Rattle.book.specs.declared.types.Settings.{Settings}
 use Rattle.book.specs.declared.types.Book.{Book}
-use Rattle.book.specs.declared.types.BookAnswer.{BookAnswer}
+use Rattle.prelude.specs.Verdicts.{Verdict}
 
 -- one byte on, another byte, the file's end
 module _ (f : List ℕ) (p : ℕ) (h : p < length f) where
-  filler-step : fillers_from (length f - p) f p ≡ if_eq (byte f p) filler (fillers_from (length f - (p + 1)) f (p + 1)) (Verdict.Refused (refusal_at after_end p))
+  filler-step : fillers_from (length f - p) f p ≡ if_eq (byte f p) filler (fillers_from (length f - (p + 1)) f (p + 1)) (Err (refusal_at after_end p))
   unfolding fillers_from
   filler-step = let e : length f - p ≡ suc (length f - (p + 1)) = omega arith in rw e
 
   pub filler-on : byte f p ≡ filler → fillers_from (length f - p) f p ≡ fillers_from (length f - (p + 1)) f (p + 1)
   filler-on e = filler-step ∙ is_eq e _ _
 
-  pub filler-other : (byte f p ≡ filler → ⊥) → fillers_from (length f - p) f p ≡ Verdict.Refused (refusal_at after_end p)
+  pub filler-other : (byte f p ≡ filler → ⊥) → fillers_from (length f - p) f p ≡ Err (refusal_at after_end p)
   filler-other n = filler-step ∙ is_ne n _ _
 
-pub filler_end : (f : List ℕ) (p : ℕ) → length f ≤ p → fillers_from (length f - p) f p ≡ Verdict.Fine
+pub filler_end : (f : List ℕ) (p : ℕ) → length f ≤ p → fillers_from (length f - p) f p ≡ Ok tt
 unfolding fillers_from
 filler_end f p h = let e : length f - p ≡ 0 = omega arith in rw e
 
 -- nothing after the end record
-pub nothing_after : (f : List ℕ) (e : ℕ) → length f ≤ e → after_end_record f e ≡ Verdict.Fine
+pub nothing_after : (f : List ℕ) (e : ℕ) → length f ≤ e → after_end_record f e ≡ Ok tt
 unfolding after_end_record
 nothing_after f e h = is_ge (omega arith) _ _ ∙ filler_end f e h
 
 -- all of them fillers, both ways
-fine_fillers : (f : List ℕ) (k p : ℕ) → p + k ≡ length f → fillers_from k f p ≡ Verdict.Fine → drop p f ≡ replicate k filler
+fine_fillers : (f : List ℕ) (k p : ℕ) → p + k ≡ length f → fillers_from k f p ≡ Ok tt → drop p f ≡ replicate k filler
 unfolding fillers_from
 fine_fillers f zero p h e = let l : length f ≤ p = omega arith in drop_of_length-le f l
 fine_fillers f (suc k) p h e =
@@ -51,7 +50,7 @@ fine_fillers f (suc k) p h e =
     let r : drop (p + 1) f ≡ replicate k filler = fine_fillers f k (p + 1) (omega arith) q.1 in
     rw (drop-cons f p 0 (omega arith), q.0) (ap (λ (l : List ℕ). filler ∷ l) (rw (add-one p) at r))
 
-pub fillers_fine : (f : List ℕ) (k p : ℕ) → p + k ≡ length f → drop p f ≡ replicate k filler → fillers_from k f p ≡ Verdict.Fine
+pub fillers_fine : (f : List ℕ) (k p : ℕ) → p + k ≡ length f → drop p f ≡ replicate k filler → fillers_from k f p ≡ Ok tt
 unfolding fillers_from
 fillers_fine f zero p h e = refl
 fillers_fine f (suc k) p h e =
@@ -64,14 +63,14 @@ fillers_fine f (suc k) p h e =
 pub record Ended (f : List ℕ) (at : ℕ) (w : Walk) : Type 0 where
   pub behind : at ≤ end_in w
   pub inside : end_in w ≤ length f
-  pub fine : after_end_record f (end_in w) ≡ Verdict.Fine
+  pub fine : after_end_record f (end_in w) ≡ Ok tt
 
-fine_only : (s : Settings) (n : ℕ) (v : Verdict) {b : Book} → accepted s n v ≡ BookAnswer.Accepted b → v ≡ Verdict.Fine
+fine_only : (s : Settings) (n : ℕ) (v : Verdict) {b : Book} → accepted s n v ≡ Ok b → v ≡ Ok tt
 unfolding accepted
-fine_only s n Verdict.Fine e = refl
-fine_only s n (Verdict.Refused r) e = absurd (refused_not_accepted e)
+fine_only s n (Ok tt) e = refl
+fine_only s n (Err r) e = absurd (refused_not_accepted e)
 
-pub walk_ended : (f : List ℕ) (n at : ℕ) {b : Book} → At f n at → (w : Walk) → walk_from f n at ≡ w → counted f n w ≡ BookAnswer.Accepted b → Ended f at w
+pub walk_ended : (f : List ℕ) (n at : ℕ) {b : Book} → At f n at → (w : Walk) → walk_from f n at ≡ w → counted f n w ≡ Ok b → Ended f at w
 unfolding counted end_in
 walk_ended f n at a (more p w) e c =
     let m = walk_met f n at a e in
@@ -82,12 +81,12 @@ walk_ended f n at a (ended p) e c =
     record { behind = omega (arith, m.1); inside = omega (arith, m.1, m.0.there); fine = fine_only (settings_of f) n _ c }
 walk_ended f n at a (stopped r) e c = absurd (refused_not_accepted c)
 
-pub book_ended : (f : List ℕ) {b : Book} → book_of f ≡ BookAnswer.Accepted b → Ended f first_record (walk_of f)
+pub book_ended : (f : List ℕ) {b : Book} → book_of f ≡ Ok b → Ended f first_record (walk_of f)
 unfolding walk_of
 book_ended f h = walk_ended f 0 first_record (at_first (book_accepted f h).long) (walk_of f) refl (walk-counted f h)
 
 -- what an accepted book is
-pub book_filled : (f : List ℕ) {b : Book} → book_of f ≡ BookAnswer.Accepted b → Filled f
+pub book_filled : (f : List ℕ) {b : Book} → book_of f ≡ Ok b → Filled f
 unfolding unfilled fillers_of after_end_record
 book_filled f h =
     let e : Ended f first_record (walk_of f) = book_ended f h in

@@ -1,7 +1,7 @@
 -- Two files that agree up to the end record of an accepted book and have fillers after it are the same book: so a book without its fillers, and with others.
 -- Assumes nothing.
 use Prim.Native.Nat.{ℕ, suc, ◌+◌, ◌-◌, ◌≤◌}
-use Rattle.std.specs.Prelude.{◌≡◌, length, drop, replicate}
+use Rattle.std.specs.Prelude.{Ok, ◌≡◌, length, drop, replicate}
 use Rattle.std.proofs.Math.Path.{refl, sym, ap}
 use Rattle.std.proofs.Common.{◌∙◌, ⊎_elim, arith, length-append, take-take, drop_at}
 use Rattle.std.proofs.Math.Bool.{true}
@@ -11,7 +11,6 @@ use Rattle.std.proofs.lemmas.List.{length-replicate, take-append-le}
 use Rattle.std.proofs.Math.Seq.{length-take-le}
 use Rattle.prelude.proofs.Laws.Choice.{is_ge, is_true}
 use Rattle.prelude.proofs.Laws.Members.{map_same}
-use Rattle.prelude.specs.declared.refusals.Verdict.{Verdict}
 use Rattle.book.specs.Settings.{book_identified, settings_of, settings_ok, first_record}
 use Rattle.book.specs.Walk.{Walk, more, ended, stopped, next_place, walk_from, walk_of, places_in}
 use Rattle.book.specs.Fillers.{filler, most_fillers, after_end_record, end_in, fillers_of, unfilled}
@@ -24,12 +23,11 @@ use Rattle.book.proofs.Laws.Fillers.{nothing_after, fillers_fine, Ended, walk_en
 use Rattle.book.specs.SameBook.{SameTexts, SameBook}
 use Rattle.book.proofs.Laws.Alike.{Alike, stretch-alike, entry-alike, named-alike, settings-alike, settings-ok-alike, walk-alike}
 use Rattle.book.specs.declared.types.Book.{Book}
-use Rattle.book.specs.declared.types.BookAnswer.{BookAnswer}
 
 -- what is counted along one walk, where both files have fillers after its end
 counted-alike :
-    (f g : List ℕ) (n : ℕ) (w : Walk) → settings_of g ≡ settings_of f → after_end_record f (end_in w) ≡ Verdict.Fine
-    → after_end_record g (end_in w) ≡ Verdict.Fine → counted g n w ≡ counted f n w
+    (f g : List ℕ) (n : ℕ) (w : Walk) → settings_of g ≡ settings_of f → after_end_record f (end_in w) ≡ Ok tt
+    → after_end_record g (end_in w) ≡ Ok tt → counted g n w ≡ counted f n w
 unfolding counted end_in
 counted-alike f g n (more p w) s x y = counted-alike f g (suc n) w s x y
 counted-alike f g n (ended e) s x y = rw (s, x, y)
@@ -37,7 +35,7 @@ counted-alike f g n (stopped r) s x y = refl
 
 -- the records met lie before the walk's end
 places_inside :
-    (f : List ℕ) (n at : ℕ) {b : Book} → At f n at → (w : Walk) → walk_from f n at ≡ w → counted f n w ≡ BookAnswer.Accepted b
+    (f : List ℕ) (n at : ℕ) {b : Book} → At f n at → (w : Walk) → walk_from f n at ≡ w → counted f n w ≡ Ok b
     → (x : ℕ) → Memᴰ x (places_in w) → RecordAt f x × (next_place f x ≤ end_in w)
 unfolding counted end_in places_in
 places_inside f n at a (more p w) e c x i =
@@ -49,12 +47,12 @@ places_inside f n at a (ended p) e c x i = absurd (Memᴰ.not-nil i)
 places_inside f n at a (stopped r) e c x i = absurd (Memᴰ.not-nil i)
 
 pub book_places :
-    (f : List ℕ) {b : Book} → book_of f ≡ BookAnswer.Accepted b → (x : ℕ) → Memᴰ x (places_of f) → RecordAt f x × (next_place f x ≤ end_in (walk_of f))
+    (f : List ℕ) {b : Book} → book_of f ≡ Ok b → (x : ℕ) → Memᴰ x (places_of f) → RecordAt f x × (next_place f x ≤ end_in (walk_of f))
 unfolding places_of walk_of
 book_places f h = places_inside f 0 first_record (at_first (book_accepted f h).long) (walk_of f) refl (walk-counted f h)
 
 -- Two files that agree up to the end record of an accepted book, and have fillers after it.
-module _ (f g : List ℕ) {b : Book} (h : book_of f ≡ BookAnswer.Accepted b) (s : Alike (end_in (walk_of f)) f g) where
+module _ (f g : List ℕ) {b : Book} (h : book_of f ≡ Ok b) (s : Alike (end_in (walk_of f)) f g) where
   same-walk : walk_of g ≡ walk_of f
   unfolding walk_of
   same-walk =
@@ -70,7 +68,7 @@ module _ (f g : List ℕ) {b : Book} (h : book_of f ≡ BookAnswer.Accepted b) (
         note = stretch-alike (end_in (walk_of f)) f g s (entry_at f at).note (omega arith);
       }
 
-  same-book : length g ≤ most_book_bytes → after_end_record g (end_in (walk_of f)) ≡ Verdict.Fine → SameBook f g
+  same-book : length g ≤ most_book_bytes → after_end_record g (end_in (walk_of f)) ≡ Ok tt → SameBook f g
   unfolding book_of places_of walk_of
   same-book l v =
       let e : Ended f first_record (walk_of f) = book_ended f h in
@@ -89,7 +87,7 @@ module _ (f g : List ℕ) {b : Book} (h : book_of f ≡ BookAnswer.Accepted b) (
       }
 
 -- The book without its fillers: it ends with its end record, and is the same book.
-module _ (f : List ℕ) {b : Book} (h : book_of f ≡ BookAnswer.Accepted b) where
+module _ (f : List ℕ) {b : Book} (h : book_of f ≡ Ok b) where
   length-unfilled : length (unfilled f) ≡ end_in (walk_of f)
   unfolding unfilled
   length-unfilled = length-take-le (end_in (walk_of f)) f (book_ended f h).inside
@@ -116,7 +114,7 @@ module _ (f : List ℕ) {b : Book} (h : book_of f ≡ BookAnswer.Accepted b) whe
 
 -- A book that ends with its end record, with "0 to 127 bytes, all 1Ah", after it: still the same book.
 pub filled-same :
-    (f : List ℕ) {b : Book} (k : ℕ) → book_of f ≡ BookAnswer.Accepted b → fillers_of f ≡ 0 → k ≤ most_fillers → length f + k ≤ most_book_bytes
+    (f : List ℕ) {b : Book} (k : ℕ) → book_of f ≡ Ok b → fillers_of f ≡ 0 → k ≤ most_fillers → length f + k ≤ most_book_bytes
     → SameBook f (f ++ replicate k filler)
 unfolding fillers_of after_end_record
 filled-same f k h z l m =

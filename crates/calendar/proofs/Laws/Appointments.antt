@@ -1,10 +1,9 @@
 -- Laws of what an accepted file shows: a cursor walks a judged list one appointment at a time, and a day's list is found by its descriptor.
 -- Assumes nothing.
-use Rattle.std.specs.Prelude.{ℕ, suc, ◌+◌, ◌<◌, ◌≤◌, ◌≡◌, List, [], ◌∷◌, length, get_or, drop}
+use Rattle.std.specs.Prelude.{Ok, ℕ, suc, ◌+◌, ◌<◌, ◌≤◌, ◌≡◌, List, [], ◌∷◌, length, get_or, drop}
 use Rattle.std.proofs.Math.Path.{refl}
 use Rattle.std.proofs.Common.{sym, ◌∙◌, ap, arith, drop-cons}
 use Rattle.prelude.proofs.Laws.Choice.{is_eq, is_ne}
-use Rattle.prelude.specs.declared.refusals.Verdict.{Verdict}
 use Rattle.calendar.specs.Lists.{size_at, minute_at, next_at, list_walk_from, places_in_list, verdict_in}
 use Rattle.calendar.proofs.Laws.Lists.{AppointmentAt, appointment-ok-facts, walk_end, places_end, verdict_end, list-fine-appointment-ok, list-next, list-places}
 use Rattle.calendar.specs.Reader.{most_bytes, day_at, block_at, list_place, list_end, list_of, day_verdict}
@@ -15,7 +14,7 @@ use Rattle.calendar.specs.Shown.{places_from, places_on}
 -- the place of appointment n of a list: what is ahead of it are the appointments from n on
 pub record ListCursor (f : List ℕ) (e : ℕ) (places : List ℕ) (n at : ℕ) : Type 0 where
   pub low : ℕ
-  pub fine : verdict_in (list_walk_from f e low at) ≡ Verdict.Fine
+  pub fine : verdict_in (list_walk_from f e low at) ≡ Ok tt
   pub ahead : drop n places ≡ places_in_list (list_walk_from f e low at)
   pub count : length places ≡ n + length (places_in_list (list_walk_from f e low at))
 
@@ -63,9 +62,9 @@ module _ (f : List ℕ) (p d : ℕ) where
   places-from-other-day k e = is_ne e _ _
 
 -- the list at the day's descriptor, and the empty one where there is none
-pub list_here : (f : List ℕ) (d p : ℕ) → length f ≤ most_bytes → day_verdict f p ≡ Verdict.Fine → places_on f d ≡ places_in_list (list_of f p) → ListOn f d (list_place f (block_at f p)) (list_end f (block_at f p))
+pub list_here : (f : List ℕ) (d p : ℕ) → length f ≤ most_bytes → day_verdict f p ≡ Ok tt → places_on f d ≡ places_in_list (list_of f p) → ListOn f d (list_place f (block_at f p)) (list_end f (block_at f p))
 list_here f d p h v e =
-    let b : BlockAt f p × (verdict_in (list_of f p) ≡ Verdict.Fine) = day-fine f p v in
+    let b : BlockAt f p × (verdict_in (list_of f p) ≡ Ok tt) = day-fine f p v in
     record { list = record { list = record { inside = b.0.whole; size = h }; fine = b.1 }; places = e }
 
 pub list_none : (f : List ℕ) (d : ℕ) → length f ≤ most_bytes → places_on f d ≡ [] → ListOn f d 0 0

@@ -1,6 +1,6 @@
 -- Document 01, "One whole case": the files of 192 and of 64 bytes, as they are written and read.
 -- Assumes nothing.
-use Rattle.std.specs.Prelude.{ℕ, ◌≡◌, refl, List, [], ◌∷◌, ◌++◌, length}
+use Rattle.std.specs.Prelude.{Ok, ℕ, ◌≡◌, refl, List, [], ◌∷◌, ◌++◌, length}
 use Rattle.prelude.specs.Choice.{if_lt, if_eq, if_b}
 use Rattle.prelude.specs.Bytes.{le16}
 use Rattle.prelude.specs.Verdicts.{and_then}
@@ -9,7 +9,6 @@ use Rattle.calendar.specs.Lists.{first_zero, appointment_ok, list_walk_f, list_w
 use Rattle.calendar.specs.Reader.{calendar_mark, calendar_identified, table_from, block_ok, day_verdict, days_from, calendar_answered, calendar_of}
 use Rattle.calendar.specs.Shown.{places_from, places_on, appointment_at, appointments_on}
 use Rattle.calendar.specs.declared.types.CalendarSettings.{CalendarSettings}
-use Rattle.prelude.specs.declared.answers.CountAnswer.{CountAnswer}
 
 -- lead time 5, alarm on, granularity 30, display from 8:00
 abbrev settings : CalendarSettings
@@ -36,7 +35,7 @@ pub case-written : (file_of settings days ≡ case) × (length case ≡ 192)
 unfolding file_of head_bytes table descriptor_bytes alarms filled blocks block_bytes appointments_bytes appointment_bytes le16
 case-written = (refl, refl)
 
-pub case-accepted : calendar_of case ≡ CountAnswer.Count 1
+pub case-accepted : calendar_of case ≡ Ok 1
 unfolding calendar_of calendar_answered and_then calendar_identified calendar_mark table_from days_from day_verdict block_ok list_walk_from list_walk_f appointment_ok first_zero verdict_in if_lt if_eq if_b
 case-accepted = refl
 
@@ -53,6 +52,6 @@ pub empty_written : (file_of settings [] ≡ empty_case) × (length empty_case �
 unfolding file_of head_bytes table filled blocks le16
 empty_written = (refl, refl)
 
-pub empty_accepted : calendar_of empty_case ≡ CountAnswer.Count 0
+pub empty_accepted : calendar_of empty_case ≡ Ok 0
 unfolding calendar_of calendar_answered and_then calendar_identified calendar_mark table_from days_from if_lt if_eq if_b
 empty_accepted = refl

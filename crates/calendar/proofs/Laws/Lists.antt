@@ -1,17 +1,18 @@
 -- Laws of a day's list: the first zero, what an appointment is, and that the walk goes on by one appointment at a time without ever running out.
 -- Assumes nothing.
 use Prim.Native.Nat.{ℕ, zero, suc, ◌+◌, ◌-◌, ◌<◌, ◌≤◌}
-use Rattle.std.specs.Prelude.{◌≡◌, refl, true, false, List, [], ◌∷◌}
-use Rattle.std.proofs.Common.{sym, ◌∙◌}
+use Rattle.std.specs.Prelude.{Ok, Err, ◌≡◌, refl, true, false, eqb, List, [], ◌∷◌}
+use Rattle.std.proofs.Common.{sym, ◌∙◌, eq-eqb, ne_eqb}
+use Rattle.prelude.specs.Choice.{if_eq}
 use Rattle.std.proofs.Math.Path.{ap}
 use Rattle.std.proofs.Math.Bool.{false≢true}
 use native.Mathlib.Omega.{arith}
-use Rattle.prelude.proofs.Laws.Choice.{is_lt, is_ge, is_eq, is_ne, is_true, is_false, lt_elim, eq_elim, lt_skip, eq_take, bool_cases, constructors_differ}
+use Rattle.prelude.proofs.Laws.Choice.{is_lt, is_ge, is_eq, is_ne, is_true, is_false, lt_elim, eq_elim, lt_skip, eq_take, bool_cases}
 use Rattle.prelude.specs.Bytes.{byte}
 use Rattle.prelude.specs.Refusals.{bad_appointment, refusal_at}
-use Rattle.prelude.specs.declared.refusals.Verdict.{Verdict}
 use Rattle.days.specs.Days.{last_minute}
 use Rattle.calendar.specs.Lists.{size_at, flags_at, minute_at, next_at, first_zero, appointment_ok, ListWalk, more, ended, stopped, list_walk_f, list_walk_from, places_in_list, verdict_in}
+use Rattle.prelude.proofs.Laws.Results.{err_not_ok}
 
 -- the first zero: of no byte, where a zero stands, where another byte does
 pub zero-none : (f : List ℕ) (p : ℕ) → first_zero 0 f p ≡ p
@@ -57,6 +58,10 @@ zero_more (suc n) f p z =
 pub before_last : (f : List ℕ) (i last : ℕ) → i ≤ last → byte f last ≡ 0 → (byte f i ≡ 0 → ⊥) → i < last
 before_last f i last h z n =
     eq_elim {X = Unit {0}} (λ _. i < last) i last tt tt (λ e. absurd (n (ap (λ (k : ℕ). byte f k) e ∙ z))) (λ d. omega arith)
+
+-- a test of two numbers that are equal just where two others are
+pub test_is : (a b m n : ℕ) → (a ≡ b → m ≡ n) → (m ≡ n → a ≡ b) → eqb a b ≡ if_eq m n true false
+test_is a b m n f g = eq_elim (λ z. eqb a b ≡ z) m n true false (λ e. eq-eqb a b (g e)) (λ d. ne_eqb a b (λ e. d (f e)))
 
 -- what an appointment is
 pub record AppointmentAt (f : List ℕ) (e low at : ℕ) : Type 0 where
@@ -136,25 +141,22 @@ pub verdict_more : (at : ℕ) (w : ListWalk) → verdict_in (more at w) ≡ verd
 unfolding verdict_in
 verdict_more at w = refl
 
-pub verdict_end : verdict_in ended ≡ Verdict.Fine
+pub verdict_end : verdict_in ended ≡ Ok tt
 unfolding verdict_in
 verdict_end = refl
 
-pub verdict_stop : (at : ℕ) → verdict_in (stopped at) ≡ Verdict.Refused (refusal_at bad_appointment at)
+pub verdict_stop : (at : ℕ) → verdict_in (stopped at) ≡ Err (refusal_at bad_appointment at)
 unfolding verdict_in
 verdict_stop at = refl
 
-refused_not : {n p : ℕ} → Verdict.Refused (refusal_at n p) ≡ Verdict.Fine → ⊥
-refused_not c = constructors_differ cc
-
 -- In a list without refusal an appointment stands before the end, and what comes after it is without refusal.
-module _ (f : List ℕ) (e low at : ℕ) (fine : verdict_in (list_walk_from f e low at) ≡ Verdict.Fine) (h : at < e) where
+module _ (f : List ℕ) (e low at : ℕ) (fine : verdict_in (list_walk_from f e low at) ≡ Ok tt) (h : at < e) where
   pub list-fine-appointment-ok : appointment_ok f e low at ≡ true
   list-fine-appointment-ok =
       bool_cases (appointment_ok f e low at) (λ o. o)
-      (λ o. absurd (refused_not (sym (ap verdict_in (walk-stop f e low at h o) ∙ verdict_stop at) ∙ fine)))
+      (λ o. absurd (err_not_ok (sym (ap verdict_in (walk-stop f e low at h o) ∙ verdict_stop at) ∙ fine)))
 
-  pub list-next : verdict_in (list_walk_from f e (minute_at f at) (next_at f at)) ≡ Verdict.Fine
+  pub list-next : verdict_in (list_walk_from f e (minute_at f at) (next_at f at)) ≡ Ok tt
   list-next = sym (ap verdict_in (walk_more f e low at h list-fine-appointment-ok) ∙ verdict_more at _) ∙ fine
 
   pub list-places : places_in_list (list_walk_from f e low at) ≡ at ∷ places_in_list (list_walk_from f e (minute_at f at) (next_at f at))

@@ -1,9 +1,8 @@
 -- A day's block and its descriptor as they are written are read back: the day, the block's place, and its appointments.
 -- Assumes nothing.
-use Rattle.std.specs.Prelude.{ℕ, ◌+◌, ◌*◌, ◌<◌, ◌≤◌, ◌≡◌, List, ◌++◌, map, length}
+use Rattle.std.specs.Prelude.{Ok, ℕ, ◌+◌, ◌*◌, ◌<◌, ◌≤◌, ◌≡◌, List, ◌++◌, map, length}
 use Rattle.std.proofs.Common.{sym, ap, ◌∙◌, append_assoc, arith}
 use Rattle.prelude.specs.Bytes.{word, le16}
-use Rattle.prelude.specs.declared.refusals.Verdict.{Verdict}
 use Rattle.days.specs.Days.{last_day}
 use Rattle.calendar.specs.File.{Day, appointments_bytes, block_bytes, alarms, descriptor_bytes, last_block}
 use Rattle.calendar.specs.Lists.{places_in_list}
@@ -77,7 +76,7 @@ day_described {f} {p} u d post k l h =
 
 -- a day is read without refusal, and shows what was written
 pub record DayRead (f : List ℕ) (p : ℕ) (d : Day) : Type 0 where
-  pub fine : day_verdict f p ≡ Verdict.Fine
+  pub fine : day_verdict f p ≡ Ok tt
   pub shown : map (appointment_at f) (places_in_list (list_of f p)) ≡ d.appointments
 
 pub day_read : {f : List ℕ} {p : ℕ} (u : ℕ) (d : Day) (post after : List ℕ) → GoodDay d → u ≤ last_block → table_end f ≤ 64 * u → Described f p u d post → From f (64 * u) (block_bytes d ++ after) → DayRead f p d

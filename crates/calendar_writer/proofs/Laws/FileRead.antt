@@ -1,6 +1,6 @@
 -- A Calendar file as it is written is accepted, and shows every day as it was written.
 -- Assumes nothing.
-use Rattle.std.specs.Prelude.{ℕ, ◌+◌, ◌*◌, ◌<◌, ◌≤◌, ◌≡◌, true, List, [], ◌∷◌, ◌++◌, length}
+use Rattle.std.specs.Prelude.{Ok, ℕ, ◌+◌, ◌*◌, ◌<◌, ◌≤◌, ◌≡◌, true, List, [], ◌∷◌, ◌++◌, length}
 use Rattle.std.proofs.Common.{sym, ap, append_assoc, append-nil, arith}
 use Rattle.prelude.specs.Choice.{if_eq}
 use Rattle.prelude.proofs.Laws.Choice.{is_ge}
@@ -11,7 +11,6 @@ use Rattle.calendar.specs.Shown.{places_on, appointments_on}
 use Rattle.calendar.proofs.Laws.Reader.{facts_calendar}
 use Rattle.calendar.proofs.Laws.File.{length_block, length-table, length_head, length-filled, filled_piece, length-blocks, length-file}
 use Rattle.calendar.specs.declared.types.CalendarSettings.{CalendarSettings}
-use Rattle.prelude.specs.declared.answers.CountAnswer.{CountAnswer}
 use Rattle.calendar_writer.proofs.Laws.From.{From, from_start, from-recast, from-place-equal, from-skip, word-here}
 use Rattle.calendar_writer.proofs.Laws.TableRead.{GoodDays, list_on, TableRead, table-read}
 
@@ -61,7 +60,7 @@ module _ (s : CalendarSettings) (ds : List Day) where
     read : TableRead file 64 0 ds
     read = table-read 64 first 0 ds _ [] good (omega (arith, table-end)) (from-recast behind-head (filled_piece (table first ds) (blocks ds))) (from-recast at-blocks (sym (append-nil (blocks ds))))
 
-    pub file-accepted : calendar_of file ≡ CountAnswer.Count (length ds)
+    pub file-accepted : calendar_of file ≡ Ok (length ds)
     file-accepted =
         let c : count_of file ≡ length ds = file-counted few in
         let l : length file ≡ 64 * first + length (blocks ds) = length-file s ds in

@@ -1,12 +1,11 @@
 -- A day's appointments as they are written are read back, one by one, each with its minute, flags and text.
 -- Assumes nothing.
-use Rattle.std.specs.Prelude.{ℕ, suc, ◌+◌, ◌-◌, ◌≤◌, ◌≡◌, refl, true, length}
+use Rattle.std.specs.Prelude.{Ok, ℕ, suc, ◌+◌, ◌-◌, ◌≤◌, ◌≡◌, refl, true, length}
 use Rattle.std.proofs.Common.{sym, ap, ◌∙◌, arith, length-append}
 use Rattle.std.proofs.lemmas.Bool.{false≢true}
 use mathlib.Core.List.{List, [], ◌∷◌, ◌++◌, map, append_assoc, Memᴰ}
 use Rattle.prelude.proofs.Laws.Choice.{eq_skip}
 use Rattle.prelude.specs.Bytes.{le16}
-use Rattle.prelude.specs.declared.refusals.Verdict.{Verdict}
 use Rattle.sorting.specs.Order.{AtLeast, Sorted}
 use Rattle.days.specs.Days.{last_minute}
 use Rattle.texts.specs.Notes.{no_zero}
@@ -92,7 +91,7 @@ same {f} {at} a post r =
 
 -- a list is read without refusal, and shows what was written
 pub record ListRead (f : List ℕ) (e low at : ℕ) (al : List Appointment) : Type 0 where
-  pub fine : verdict_in (list_walk_from f e low at) ≡ Verdict.Fine
+  pub fine : verdict_in (list_walk_from f e low at) ≡ Ok tt
   pub shown : map (appointment_at f) (places_in_list (list_walk_from f e low at)) ≡ al
 
 pub list_read : {f : List ℕ} (e low at : ℕ) (al : List Appointment) (post : List ℕ) → GoodList low al → From f at (appointments_bytes al ++ post) → e ≡ at + length (appointments_bytes al) → ListRead f e low at al

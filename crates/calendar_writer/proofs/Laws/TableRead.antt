@@ -1,10 +1,9 @@
 -- The table and the day blocks as they are written are read back: every day with its appointments, and none else.
 -- Assumes nothing.
-use Rattle.std.specs.Prelude.{ℕ, ◌+◌, ◌*◌, ◌≤◌, ◌≡◌, refl, List, [], ◌∷◌, ◌++◌, map, length}
+use Rattle.std.specs.Prelude.{Ok, ℕ, ◌+◌, ◌*◌, ◌≤◌, ◌≡◌, refl, List, [], ◌∷◌, ◌++◌, map, length}
 use Rattle.std.proofs.Common.{sym, ◌∙◌, append_assoc, arith}
 use Rattle.prelude.specs.Choice.{if_eq}
 use Rattle.prelude.proofs.Laws.Choice.{is_eq, is_ne, eq_elim}
-use Rattle.prelude.specs.declared.refusals.Verdict.{Verdict}
 use Rattle.calendar.specs.File.{Appointment, Day, units, filled, block_bytes, blocks, descriptor_bytes, table, last_block}
 use Rattle.calendar.specs.Lists.{places_in_list}
 use Rattle.calendar.specs.Reader.{table_end, day_at, list_of, table_from, days_from}
@@ -30,8 +29,8 @@ list_on_nil x = refl
 
 -- the table and the days are read without refusal, and show what was written
 pub record TableRead (f : List ℕ) (p low : ℕ) (ds : List Day) : Type 0 where
-  pub rises : table_from (length ds) f p low ≡ Verdict.Fine
-  pub days : days_from (length ds) f p ≡ Verdict.Fine
+  pub rises : table_from (length ds) f p low ≡ Ok tt
+  pub days : days_from (length ds) f p ≡ Ok tt
   pub shown : (x : ℕ) → map (appointment_at f) (places_from (length ds) f p x) ≡ list_on x ds
 
 first_shown_lem : {f : List ℕ} {p : ℕ} (d : Day) (ds : List Day) (x : ℕ) → day_at f p ≡ d.day → DayRead f p d → map (appointment_at f) (places_from (length ds) f (p + 12) x) ≡ list_on x ds → map (appointment_at f) (places_from (length (d ∷ ds)) f p x) ≡ list_on x (d ∷ ds)

@@ -1,14 +1,13 @@
 -- The judging of a list, entry by entry, beside a walk over the records.
 -- Assumes nothing.
-use Rattle.std.specs.Prelude.{ℕ, zero, suc, ◌+◌, ◌-◌, ◌<◌, ◌≤◌, ◌≡◌, refl, false, List, length, get_or}
+use Rattle.std.specs.Prelude.{Ok, ℕ, zero, suc, ◌+◌, ◌-◌, ◌<◌, ◌≤◌, ◌≡◌, refl, false, List, length, get_or}
 use Rattle.std.proofs.Common.{sym, ◌∙◌, ap, arith}
 use Rattle.std.proofs.Math.Bool.{Bool, true, true≢false}
-use Rattle.prelude.specs.Choice.{if_lt}
+use Rattle.prelude.specs.Choice.{if_lt, if_eq}
 use Rattle.prelude.proofs.Laws.Choice.{is_lt, is_ge, is_true, is_false, lt_elim, eq_elim, b_elim, lt_take, b_take}
 use Rattle.prelude.specs.Refusals.{bad_cancelled}
 use Rattle.prelude.specs.Verdicts.{refused}
 use Rattle.prelude.proofs.Laws.Verdicts.{unless_bad-true, unless_bad-false}
-use Rattle.prelude.specs.declared.refusals.Verdict.{Verdict}
 use Rattle.days.specs.Days.{last_day}
 use Rattle.days.specs.Facts.{facts_of}
 use Rattle.records.specs.Fields.{record_of}
@@ -19,7 +18,7 @@ use Rattle.falls.proofs.Laws.Falls.{by_type}
 use Rattle.falls.specs.declared.types.ShortMonth.{ShortMonth}
 use Rattle.cancelled.specs.Cancelled.{cancelled_number, cancelled_day, rises_at, is_repeated, may_cancel, names_sitting, is_beyond, entry_bad, entry_verdict}
 use Rattle.cancelled.specs.Judging.{RisesUpTo, out_of_order, repeated_type}
-use Rattle.cancelled.proofs.Laws.Entries.{bad-falling, bad-other, bad-beyond, not-bad, rises_less}
+use Rattle.cancelled.proofs.Laws.Entries.{bad-falling, bad-other, bad-beyond, beyond-back, not-bad, rises_less}
 
 pub rises_up_start : (list : List ℕ) → RisesUpTo list 0
 rises_up_start list = record { each = λ a b l h. absurd (omega arith) }
@@ -43,6 +42,12 @@ rises_up_next {list} {i = suc i} r h =
 pub number_rises : (list : List ℕ) (i : ℕ) → rises_at list i ≡ true → cancelled_number (get_or list (i - 1) 0) ≤ cancelled_number (get_or list i 0)
 number_rises list zero h = omega arith
 number_rises list (suc i) h = let e : suc i - 1 ≡ i = omega arith in let s = rises_less list i h in rw e (omega arith)
+
+-- of a list that rises up to an entry: whether that is a seventeenth, by the entry 16 places before
+pub is_seventeenth :
+    {list : List ℕ} {i : ℕ} → RisesUpTo list (i + 1) → i < length list
+    → is_beyond list i ≡ if_lt i 16 false (if_eq (cancelled_number (get_or list (i - 16) 0)) (cancelled_number (get_or list i 0)) true false)
+is_seventeenth r h = beyond-back _ _ h (λ a b l m. r.each a b l (omega arith))
 
 -- what is asked first
 module _ (records : ℕ) (list : List ℕ) (i : ℕ) where
@@ -87,7 +92,7 @@ module _ (f list : List ℕ) (i : ℕ) where
 
     pub accept-entry :
         rises_at list i ≡ true → is_beyond list i ≡ false → may_cancel (entry_at f (get_or (places_of f) (cancelled_number (get_or list i 0)) 0)).«record» (cancelled_day (get_or list i 0)) ≡ true
-        → entry_verdict f list i ≡ Verdict.Fine
+        → entry_verdict f list i ≡ Ok tt
     unfolding entry_verdict
     accept-entry a b h = unless_bad-false bad_cancelled i (not-bad f list i a (names_at f _ inside ∙ h) b)
 

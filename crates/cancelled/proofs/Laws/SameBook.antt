@@ -1,7 +1,7 @@
 -- Two files that are read as the same book are the same with any list.
 -- Assumes nothing.
 use Prim.Native.Nat.{ℕ}
-use Rattle.std.specs.Prelude.{◌≡◌, true, List, length, get_or}
+use Rattle.std.specs.Prelude.{Result, Ok, Err, ◌≡◌, true, List, length, get_or}
 use Rattle.std.proofs.Math.Path.{refl, sym, ap}
 use Rattle.std.proofs.Common.{◌∙◌}
 use Rattle.std.proofs.Math.Bool.{false}
@@ -10,11 +10,12 @@ use Rattle.prelude.proofs.Laws.Choice.{is_ge, lt_elim}
 use Rattle.prelude.proofs.Laws.Members.{member_at}
 use Rattle.prelude.specs.Refusals.{bad_cancelled}
 use Rattle.prelude.specs.Verdicts.{unless_bad, in_turn}
-use Rattle.prelude.specs.declared.refusals.Verdict.{Verdict}
 use Rattle.book.specs.Books.{book_of, entry_at, places_of}
 use Rattle.book.specs.SameBook.{SameBook}
-use Rattle.book.specs.declared.types.BookAnswer.{BookAnswer}
 use Rattle.cancelled.specs.Cancelled.{cancelled_number, cancelled_day, rises_at, may_cancel, names_sitting, is_beyond, entry_bad, entry_verdict, list_verdict, with_verdict, after_book, book_with}
+use Rattle.prelude.specs.declared.refusals.Refusal.{Refusal}
+use Rattle.book.specs.declared.types.Book.{Book}
+use Rattle.prelude.specs.Verdicts.{Verdict}
 
 module _ (f g : List ℕ) (s : SameBook f g) where
   names_same : (e : ℕ) → names_sitting g e ≡ names_sitting f e
@@ -34,6 +35,6 @@ module _ (f g : List ℕ) (s : SameBook f g) where
   unfolding book_with
   book-with-same list = ap (after_book g list) s.book ∙ by (book_of f)
     where
-      by : (b : BookAnswer) → after_book g list b ≡ after_book f list b
-      by (BookAnswer.Accepted b) = unfold after_book in ap (with_verdict (BookAnswer.Accepted b)) (verdict-same list)
-      by (BookAnswer.Refused e) = unfold after_book in refl
+      by : (b : Result Book Refusal) → after_book g list b ≡ after_book f list b
+      by (Ok b) = unfold after_book in ap (with_verdict (Ok b)) (verdict-same list)
+      by (Err e) = unfold after_book in refl

@@ -1,6 +1,6 @@
 -- Dates as numbers are in the order of their bytes, so that an entry before the last is judged by three numbers.
 -- Assumes nothing.
-use Rattle.std.specs.Prelude.{ℕ, zero, suc, ◌+◌, ◌-◌, ◌*◌, ◌<◌, ◌≡◌, refl, List}
+use Rattle.std.specs.Prelude.{ℕ, zero, suc, ◌+◌, ◌-◌, ◌*◌, ◌<◌, ◌≤◌, ◌≡◌, refl, List, length}
 use Rattle.std.proofs.Math.Path.{sym, ap}
 use Rattle.std.proofs.Common.{◌∙◌, arith, add-one}
 use Rattle.std.proofs.Math.Bool.{Bool, true, false}
@@ -61,3 +61,17 @@ module _ (t : List ℕ) (b : Bytes t) where
 -- the least date of the entry after
 pub next_least : (t : List ℕ) (i : ℕ) {x : ℕ} → x ≡ date_number t i + 1 → x ≡ least_date t (i + 1)
 next_least t i e = rw (add-one i) e
+
+-- the last entry: cut short, without 65,535, or good
+module _ (t : List ℕ) (i : ℕ) (last : i + 1 ≡ entries t) where
+  pub last-cut : length t < 5 * i + 5 → entry_bad t i ≡ true
+  unfolding entry_bad
+  last-cut l = is_lt l _ _
+
+  pub last-without : 5 * i + 5 ≤ length t → (head_at t i ≡ no_record → ⊥) → entry_bad t i ≡ true
+  unfolding entry_bad
+  last-without l n = is_ge l _ _ ∙ is_eq last _ _ ∙ is_ne n _ _
+
+  pub last-good : 5 * i + 5 ≤ length t → head_at t i ≡ no_record → entry_bad t i ≡ false
+  unfolding entry_bad
+  last-good l e = is_ge l _ _ ∙ is_eq last _ _ ∙ is_eq e _ _

@@ -1,25 +1,25 @@
 -- Small tables, computed.
 -- Assumes nothing.
-use Rattle.std.specs.Prelude.{ℕ, ◌≡◌, refl, List, [], ◌∷◌, replicate}
+use Rattle.std.specs.Prelude.{Result, Ok, Err, ℕ, ◌≡◌, refl, List, [], ◌∷◌, replicate}
 use Rattle.prelude.specs.Choice.{if_lt, if_eq, if_b}
 use Rattle.prelude.specs.Refusals.{refusal_at}
 use Rattle.prelude.specs.Verdicts.{unless_bad, and_then, in_turn}
 use Rattle.chains.specs.Chains.{sizes_ok, date_before, entry_bad, head_before, head_bad, walk, next_bad, linked, values_bad, misplaced, ordered_after, ordered, chains_judged, chains_verdict, chains_answered, chains_answer}
-use Rattle.prelude.specs.declared.answers.CountAnswer.{CountAnswer}
+use Rattle.prelude.specs.declared.refusals.Refusal.{Refusal}
 
 -- two days: 1 then 0, and 2
 abbrev table : List ℕ
 table = 93 ∷ 3 ∷ 22 ∷ 1 ∷ 0 ∷ (93 ∷ 3 ∷ 26 ∷ 2 ∷ 0 ∷ (9 ∷ 9 ∷ 9 ∷ 255 ∷ 255 ∷ []))
 
-abbrev refused : ℕ → ℕ → CountAnswer
-refused n p = CountAnswer.Refused (refusal_at n p)
+abbrev refused : ℕ → ℕ → Result ℕ Refusal
+refused n p = Err (refusal_at n p)
 
 pub examples :
-    (chains_answer table (1 ∷ 65535 ∷ 65535 ∷ []) (65535 ∷ 0 ∷ 65535 ∷ []) (1 ∷ 1 ∷ 2 ∷ []) (600 ∷ 600 ∷ 9999 ∷ []) ≡ CountAnswer.Count 2)
+    (chains_answer table (1 ∷ 65535 ∷ 65535 ∷ []) (65535 ∷ 0 ∷ 65535 ∷ []) (1 ∷ 1 ∷ 2 ∷ []) (600 ∷ 600 ∷ 9999 ∷ []) ≡ Ok 2)
     × (chains_answer table (2 ∷ 65535 ∷ 65535 ∷ []) (65535 ∷ 0 ∷ 65535 ∷ []) (1 ∷ 1 ∷ 2 ∷ []) (600 ∷ 600 ∷ 0 ∷ []) ≡ refused 32 1)
     × (chains_answer table (1 ∷ 65535 ∷ 65535 ∷ []) (65535 ∷ 0 ∷ 65535 ∷ []) (0 ∷ 1 ∷ 2 ∷ []) (600 ∷ 600 ∷ 0 ∷ []) ≡ refused 33 0)
     × (chains_answer (93 ∷ 3 ∷ 22 ∷ 255 ∷ 255 ∷ (1 ∷ 2 ∷ [])) [] [] [] [] ≡ refused 31 0)
-    × (chains_answer (93 ∷ 3 ∷ 22 ∷ 255 ∷ 255 ∷ []) [] [] [] [] ≡ CountAnswer.Count 0)
+    × (chains_answer (93 ∷ 3 ∷ 22 ∷ 255 ∷ 255 ∷ []) [] [] [] [] ≡ Ok 0)
     × (chains_answer [] [] [] [] [] ≡ refused 31 0)
     × (chains_answer table (1 ∷ 65535 ∷ 65535 ∷ []) (65535 ∷ 0 ∷ []) (1 ∷ 1 ∷ 2 ∷ []) (600 ∷ 600 ∷ 0 ∷ []) ≡ refused 30 0)
     -- a next back to its own head; the first of two minutes later than the second; an appointment at 1,440; a head that has a previous
@@ -53,6 +53,6 @@ source_next =
     ∷ 0 ∷ 0 ∷ 0 ∷ 4 ∷ 0 ∷ 0 ∷ 0 ∷ 65535 ∷ []
 
 -- the source names no kinds and no times: all are events here
-pub source_example : chains_answer source_table source_previous source_next (replicate 83 0) (replicate 83 0) ≡ CountAnswer.Count 16
+pub source_example : chains_answer source_table source_previous source_next (replicate 83 0) (replicate 83 0) ≡ Ok 16
 unfolding chains_answer chains_answered chains_verdict chains_judged unless_bad and_then in_turn sizes_ok date_before entry_bad head_before head_bad walk next_bad linked values_bad misplaced ordered_after ordered if_lt if_eq if_b
 source_example = refl

@@ -1,6 +1,6 @@
 -- What fine verdicts say: sizes, an entry, each stage passed, and good heads and nexts, each in words of its own.
 -- Assumes nothing.
-use Rattle.std.specs.Prelude.{ℕ, zero, suc, ◌<◌, ◌≡◌, refl, Bool, true, false, length}
+use Rattle.std.specs.Prelude.{Ok, Err, ℕ, zero, suc, ◌<◌, ◌≡◌, refl, Bool, true, false, length}
 use Rattle.std.proofs.Common.{sym, ap, ◌∙◌, true≢false, ⊎_elim, arith}
 use Rattle.std.proofs.lemmas.Bool.{false≢true}
 use mathlib.Core.List.Memᴰ
@@ -10,10 +10,9 @@ use Rattle.prelude.specs.Refusals.{bad_chain}
 use Rattle.prelude.proofs.Laws.Refusals.{refused_not_fine}
 use Rattle.prelude.specs.Verdicts.{in_turn}
 use Rattle.prelude.proofs.Laws.Verdicts.{unless_bad_fine, and_then_fine_both, in-turn-fine-each}
-use Rattle.prelude.specs.declared.refusals.Verdict.{Verdict}
 use Rattle.chains.specs.Chains.{field_of, no_record, most_chain_records, sizes_ok, entries, days, head_at, head_before, head_bad, chain_at, next_bad, linked, entry_verdict, head_verdict, links_verdict, chains_judged, chains_verdict, chains_answered, chains_answer}
 use Rattle.chains.specs.Stages.{EqualLengths, Linked, Passed}
-use Rattle.prelude.specs.declared.answers.CountAnswer.{CountAnswer}
+use Rattle.prelude.specs.Verdicts.{Verdict}
 
 pub sizes_ok_equal_lengths : (previous next kind minute : List ℕ) {v : Bool} → v ≡ sizes_ok (length previous) (length next) (length kind) (length minute) → v ≡ true → EqualLengths previous next kind minute
 unfolding sizes_ok
@@ -25,7 +24,7 @@ sizes_ok_equal_lengths previous next kind minute e f =
     record { nexts = a.0; kinds = b.0; minutes = c.0; most = d.0 }
 
 -- along fine links no next is bad
-fine_links : (previous next rs : List ℕ) → linked previous next rs ≡ Verdict.Fine → (r : ℕ) → Memᴰ r rs → next_bad previous next r ≡ false
+fine_links : (previous next rs : List ℕ) → linked previous next rs ≡ Ok tt → (r : ℕ) → Memᴰ r rs → next_bad previous next r ≡ false
 unfolding linked
 fine_links previous next [] e r m = absurd (Memᴰ.not-nil m)
 fine_links previous next (x ∷ xs) e r m =
@@ -33,7 +32,7 @@ fine_links previous next (x ∷ xs) e r m =
     ⊎_elim (λ (z : r ≡ x). ap (next_bad previous next) z ∙ s.0) (λ z. fine_links previous next xs s.1 r z) (Memᴰ.cases_cons m)
 
 -- sizes, heads and links that were judged fine
-pub judged_linked : (t previous next kind minute : List ℕ) (k : ℕ) {v w : Verdict} → k ≡ days t → EqualLengths previous next kind minute → v ≡ in_turn (head_verdict t previous) k 0 → v ≡ Verdict.Fine → w ≡ in_turn (links_verdict t previous next) k 0 → w ≡ Verdict.Fine → Linked t previous next
+pub judged_linked : (t previous next kind minute : List ℕ) (k : ℕ) {v w : Verdict} → k ≡ days t → EqualLengths previous next kind minute → v ≡ in_turn (head_verdict t previous) k 0 → v ≡ Ok tt → w ≡ in_turn (links_verdict t previous next) k 0 → w ≡ Ok tt → Linked t previous next
 judged_linked t previous next kind minute k e s p f q g =
     record {
       equal = s.nexts;
@@ -43,7 +42,7 @@ judged_linked t previous next kind minute k e s p f q g =
     }
 
 -- a fine verdict: all stages were passed
-pub fine_passed : (t previous next kind minute : List ℕ) → chains_verdict t previous next kind minute ≡ Verdict.Fine → Passed t previous next kind minute
+pub fine_passed : (t previous next kind minute : List ℕ) → chains_verdict t previous next kind minute ≡ Ok tt → Passed t previous next kind minute
 unfolding chains_verdict chains_judged
 fine_passed t previous next kind minute e =
     let a = b_take (sizes_ok (length previous) (length next) (length kind) (length minute)) _ _ refused_not_fine e in
@@ -61,18 +60,18 @@ fine_passed t previous next kind minute e =
     }
 
 -- only a fine verdict is answered with days, as many as were counted
-days_fine : (k : ℕ) (v : Verdict) (n : ℕ) → chains_answered k v ≡ CountAnswer.Count n → (v ≡ Verdict.Fine) × (n ≡ k)
+days_fine : (k : ℕ) (v : Verdict) (n : ℕ) → chains_answered k v ≡ Ok n → (v ≡ Ok tt) × (n ≡ k)
 unfolding chains_answered
-days_fine k Verdict.Fine n e = (refl, cc)
-days_fine k (Verdict.Refused x) n e = absurd (constructors_differ cc)
+days_fine k (Ok tt) n e = (refl, cc)
+days_fine k (Err x) n e = absurd (constructors_differ cc)
 
-pub accepted_passed : (t previous next kind minute : List ℕ) (n : ℕ) → chains_answer t previous next kind minute ≡ CountAnswer.Count n → Passed t previous next kind minute × (n ≡ days t)
+pub accepted_passed : (t previous next kind minute : List ℕ) (n : ℕ) → chains_answer t previous next kind minute ≡ Ok n → Passed t previous next kind minute × (n ≡ days t)
 unfolding chains_answer
 accepted_passed t previous next kind minute n e =
     let f = days_fine _ _ n e in
     (fine_passed t previous next kind minute f.0, f.1)
 
-pub accepted-linked : (t previous next kind minute : List ℕ) (n : ℕ) → chains_answer t previous next kind minute ≡ CountAnswer.Count n → Linked t previous next
+pub accepted-linked : (t previous next kind minute : List ℕ) (n : ℕ) → chains_answer t previous next kind minute ≡ Ok n → Linked t previous next
 accepted-linked t previous next kind minute n e =
     let p = (accepted_passed t previous next kind minute n e).0 in
     judged_linked t previous next kind minute (days t) refl p.sizes refl p.head_fine refl p.links-fine

@@ -1,6 +1,6 @@
 -- A refusal has one of R-2's numbers, 30 to 33; so an answer whose number is 0 accepts.
 -- Assumes nothing.
-use Rattle.std.specs.Prelude.{ℕ, zero, suc, ◌≤◌, ◌≡◌, Bool, List, [], ◌∷◌}
+use Rattle.std.specs.Prelude.{Ok, Err, ℕ, zero, suc, ◌≤◌, ◌≡◌, Bool, List, [], ◌∷◌}
 use Rattle.std.proofs.Common.{sym, ap, arith}
 use Rattle.prelude.specs.Choice.{if_b}
 use Rattle.prelude.proofs.Laws.Choice.{b_elim, eq_elim, constructors_differ}
@@ -8,18 +8,17 @@ use Rattle.prelude.specs.Refusals.{bad_arrays, bad_day_table, bad_chain, bad_cha
 use Rattle.prelude.proofs.Laws.Refusals.{refused_not_fine}
 use Rattle.prelude.specs.Verdicts.{refused, unless_bad, and_then, in_turn}
 use Rattle.prelude.specs.declared.refusals.Refusal.{Refusal}
-use Rattle.prelude.specs.declared.refusals.Verdict.{Verdict}
 use Rattle.chains.specs.Chains.{entries, days, entry_bad, head_bad, chain_at, linked, ordered_after, ordered, entry_verdict, head_verdict, links_verdict, order_verdict, chains_judged, chains_verdict, chains_answered, chains_answer}
-use Rattle.prelude.specs.declared.answers.CountAnswer.{CountAnswer}
+use Rattle.prelude.specs.Verdicts.{Verdict}
 
 abbrev Numbered : Verdict → Type 0
-Numbered v = (e : Refusal) → v ≡ Verdict.Refused e → (30 ≤ e.number) × (e.number ≤ 33)
+Numbered v = (e : Refusal) → v ≡ Err e → (30 ≤ e.number) × (e.number ≤ 33)
 
 abbrev number_of : Verdict → ℕ
-number_of Verdict.Fine = 0
-number_of (Verdict.Refused e) = e.number
+number_of (Ok tt) = 0
+number_of (Err e) = e.number
 
-fine_numbered : Numbered Verdict.Fine
+fine_numbered : Numbered (Ok tt)
 fine_numbered e h = absurd (refused_not_fine (sym h))
 
 refused-numbered : (n p : ℕ) → 30 ≤ n → n ≤ 33 → Numbered (refused n p)
@@ -30,8 +29,8 @@ choice_numbered b {v} {w} p q = b_elim Numbered b v w (λ _. p) (λ _. q)
 
 then_numbered : (v w : Verdict) → Numbered v → Numbered w → Numbered (and_then v w)
 unfolding and_then
-then_numbered Verdict.Fine w p q = q
-then_numbered (Verdict.Refused e) w p q = p
+then_numbered (Ok tt) w p q = q
+then_numbered (Err e) w p q = p
 
 turns_numbered : (judged : ℕ → Verdict) (k i : ℕ) → ((j : ℕ) → Numbered (judged j)) → Numbered (in_turn judged k i)
 unfolding in_turn
@@ -74,11 +73,11 @@ verdict_numbered t previous next kind minute =
     (eq_elim Numbered (entries t) 0 _ _ (λ _. refused-numbered bad_day_table 0 (omega arith) (omega arith)) (λ _. judged_numbered t previous next kind minute))
     (refused-numbered bad_arrays 0 (omega arith) (omega arith))
 
-answered_refused : (n : ℕ) (v : Verdict) (e : Refusal) → chains_answered n v ≡ CountAnswer.Refused e → v ≡ Verdict.Refused e
+answered_refused : (n : ℕ) (v : Verdict) (e : Refusal) → chains_answered n v ≡ Err e → v ≡ Err e
 unfolding chains_answered
-answered_refused n Verdict.Fine e h = absurd (constructors_differ cc)
-answered_refused n (Verdict.Refused x) e h = cc
+answered_refused n (Ok tt) e h = absurd (constructors_differ cc)
+answered_refused n (Err x) e h = cc
 
-pub refusal_number : (t previous next kind minute : List ℕ) (e : Refusal) → chains_answer t previous next kind minute ≡ CountAnswer.Refused e → (30 ≤ e.number) × (e.number ≤ 33)
+pub refusal_number : (t previous next kind minute : List ℕ) (e : Refusal) → chains_answer t previous next kind minute ≡ Err e → (30 ≤ e.number) × (e.number ≤ 33)
 unfolding chains_answer
 refusal_number t previous next kind minute e h = verdict_numbered t previous next kind minute e (answered_refused _ _ e h)

@@ -1,6 +1,6 @@
 -- Kinds, minutes and order: a chain that is judged fine is sorted, with good values, and such a chain is judged fine.
 -- Assumes nothing.
-use Rattle.std.specs.Prelude.{ℕ, ◌≤◌, ◌≡◌, Bool, false}
+use Rattle.std.specs.Prelude.{Ok, ℕ, ◌≤◌, ◌≡◌, Bool, false}
 use Rattle.std.proofs.Math.Path.{refl, sym}
 use Rattle.std.proofs.Common.{◌∙◌}
 use Rattle.std.proofs.Math.Bool.{true≢false}
@@ -9,7 +9,6 @@ use mathlib.Core.List.Memᴰ
 use mathlib.Core.List.{List, [], ◌∷◌, Memᴰ}
 use Rattle.prelude.proofs.Laws.Choice.{is_ge, is_eq, is_false, eq_elim, lt_skip, b_skip}
 use Rattle.prelude.proofs.Laws.Refusals.{refused_not_fine}
-use Rattle.prelude.specs.declared.refusals.Verdict.{Verdict}
 use Rattle.chains.specs.Chains.{field_of, values_bad, misplaced, ordered_after, ordered}
 use Rattle.chains.specs.Valid.{InRange, InOrder, SortedAfter, ChainSorted}
 
@@ -44,7 +43,7 @@ module _ (kind minute : List ℕ) where
       (λ x. eq_elim (λ b. b ≡ false) (field_of kind r) 1 _ _ (λ y. is_ge (o.times x y) _ _) (λ _. refl)) (λ _. refl)
 
   -- along what follows a record, and along a chain
-  after_sorted : (q : ℕ) (rs : List ℕ) → ordered_after kind minute q rs ≡ Verdict.Fine → ((r : ℕ) → Memᴰ r rs → InRange kind minute r) × SortedAfter kind minute q rs
+  after_sorted : (q : ℕ) (rs : List ℕ) → ordered_after kind minute q rs ≡ Ok tt → ((r : ℕ) → Memᴰ r rs → InRange kind minute r) × SortedAfter kind minute q rs
   unfolding ordered_after SortedAfter
   after_sorted q [] e = (λ r m. absurd (Memᴰ.not-nil m), tt)
   after_sorted q (r ∷ rs) e =
@@ -53,7 +52,7 @@ module _ (kind minute : List ℕ) where
       let s = after_sorted r rs b.1 in
       (λ x m. ⊎_elim (λ (z : x ≡ r). rw z (good_values _ _ a.0)) (λ z. s.0 x z) (Memᴰ.cases_cons m), (placed q r b.0, s.1))
 
-  pub chain-sorted : (rs : List ℕ) → ordered kind minute rs ≡ Verdict.Fine → ((r : ℕ) → Memᴰ r rs → InRange kind minute r) × ChainSorted kind minute rs
+  pub chain-sorted : (rs : List ℕ) → ordered kind minute rs ≡ Ok tt → ((r : ℕ) → Memᴰ r rs → InRange kind minute r) × ChainSorted kind minute rs
   unfolding ordered ChainSorted
   chain-sorted [] e = (λ r m. absurd (Memᴰ.not-nil m), tt)
   chain-sorted (r ∷ rs) e =
@@ -61,14 +60,14 @@ module _ (kind minute : List ℕ) where
       let s = after_sorted r rs a.1 in
       (λ x m. ⊎_elim (λ (z : x ≡ r). rw z (good_values _ _ a.0)) (λ z. s.0 x z) (Memᴰ.cases_cons m), s.1)
 
-  sorted_after : (q : ℕ) (rs : List ℕ) → ((r : ℕ) → Memᴰ r rs → InRange kind minute r) → SortedAfter kind minute q rs → ordered_after kind minute q rs ≡ Verdict.Fine
+  sorted_after : (q : ℕ) (rs : List ℕ) → ((r : ℕ) → Memᴰ r rs → InRange kind minute r) → SortedAfter kind minute q rs → ordered_after kind minute q rs ≡ Ok tt
   unfolding ordered_after SortedAfter
   sorted_after q [] f s = refl
   sorted_after q (r ∷ rs) f s =
       is_false (values_good _ _ (f r (Memᴰ.head refl))) _ _ ∙ is_false (order-placed q r s.0) _ _
       ∙ sorted_after r rs (λ x m. f x (Memᴰ.tail m)) s.1
 
-  pub sorted-chain : (rs : List ℕ) → ((r : ℕ) → Memᴰ r rs → InRange kind minute r) → ChainSorted kind minute rs → ordered kind minute rs ≡ Verdict.Fine
+  pub sorted-chain : (rs : List ℕ) → ((r : ℕ) → Memᴰ r rs → InRange kind minute r) → ChainSorted kind minute rs → ordered kind minute rs ≡ Ok tt
   unfolding ordered ChainSorted
   sorted-chain [] f s = refl
   sorted-chain (r ∷ rs) f s =

@@ -1,7 +1,7 @@
 -- Ranks say what the definition says: a record's is 0 just where its values are bad, and of two others the later is lower
 -- just where it is misplaced.
 -- Assumes nothing.
-use Rattle.std.specs.Prelude.{ℕ, ◌+◌, ◌<◌, ◌≤◌, ◌≡◌, Bool, length}
+use Rattle.std.specs.Prelude.{Ok, ℕ, ◌+◌, ◌<◌, ◌≤◌, ◌≡◌, Bool, length}
 use Rattle.std.proofs.Math.Path.{refl, sym, ap}
 use Rattle.std.proofs.Common.{◌∙◌, true≢false, arith}
 use Rattle.std.proofs.Math.Bool.{true, false}
@@ -10,7 +10,6 @@ use Rattle.prelude.specs.Choice.{if_lt, if_b}
 use Rattle.prelude.proofs.Laws.Choice.{is_lt, is_ge, is_eq, is_ne, is_true, is_false, bool_cases, lt_elim, eq_elim, lt_choice}
 use Rattle.prelude.specs.Refusals.{bad_chain_order}
 use Rattle.prelude.specs.Verdicts.{refused}
-use Rattle.prelude.specs.declared.refusals.Verdict.{Verdict}
 use Rattle.chains.specs.Chains.{field_of, values_bad, misplaced, ordered_after, ordered}
 use Rattle.chains.specs.Ranks.{rank, ranked}
 use Rattle.chains.specs.Stages.{EndsIn, ahead}
@@ -124,6 +123,6 @@ module _ (kind minute : List ℕ) where
           ap (ranked kind minute low) (ahead-next next r e) ∙ is_ge (omega (arith, q)) _ _
           ∙ ap (λ (m : ℕ). ranked kind minute m (ahead next (field_of next r))) (sym q)
 
-    pub ranks-none : length next ≤ r → ranked kind minute low (ahead next r) ≡ Verdict.Fine
+    pub ranks-none : length next ≤ r → ranked kind minute low (ahead next r) ≡ Ok tt
     unfolding ranked
     ranks-none l = ap (ranked kind minute low) (is_ge l _ _)

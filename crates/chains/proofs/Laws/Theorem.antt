@@ -2,7 +2,7 @@
 -- named back, so walks that meet are the same (`runs-meet`), and one that does not end would have too many records (`pigeonhole`).
 -- Assumes nothing.
 use Prim.Native.Nat.{ℕ, zero, suc, ◌<◌, ◌≤◌}
-use Rattle.std.specs.Prelude.{◌≡◌, false, ◌⊎◌, length}
+use Rattle.std.specs.Prelude.{Result, ◌≡◌, false, ◌⊎◌, length}
 use Rattle.std.proofs.Common.{sym, ◌∙◌, arith}
 use Rattle.std.proofs.Math.Logic.{inl, inr, ⊎_elim}
 use mathlib.Core.List.{List, Memᴰ}
@@ -13,7 +13,7 @@ use Rattle.chains.proofs.Laws.Runs.{Back, runs-meet, pigeonhole}
 use Rattle.chains.specs.Stages.{Linked, StepsIn, EndsIn, ChainsEnd}
 use Rattle.chains.proofs.Laws.Linked.{accepted-linked, head_bad-false-facts, head_before-false_apart, next_in_lem}
 use Rattle.chains.proofs.Laws.Steps.{steps-in-suc, walk-reached, reached-walk, walk_steps, run_of_after}
-use Rattle.prelude.specs.declared.answers.CountAnswer.{CountAnswer}
+use Rattle.prelude.specs.declared.refusals.Refusal.{Refusal}
 
 -- a walk that ends, and at a record with no next
 record Ended (next : List ℕ) (r : ℕ) : Type 0 where
@@ -97,5 +97,5 @@ accepted_chains t previous next kind minute n e =
     record { apart = apart t previous next g; ends = ends t previous next g }
 
 -- so an answer that is as defined keeps what it promises
-pub chains_promised : (t previous next kind minute : List ℕ) {answer : CountAnswer} → answer ≡ chains_answer t previous next kind minute → (answer ≡ chains_answer t previous next kind minute) × Promised t next answer
+pub chains_promised : (t previous next kind minute : List ℕ) {answer : Result ℕ Refusal} → answer ≡ chains_answer t previous next kind minute → (answer ≡ chains_answer t previous next kind minute) × Promised t next answer
 chains_promised t previous next kind minute e = (e, λ n f. accepted_chains t previous next kind minute n (sym e ∙ f))

@@ -1,13 +1,12 @@
 -- Accepted are just the chains that R-2's sentence names: each test of the judgement, fine, says what the sentence says.
 -- Assumes nothing.
-use Rattle.std.specs.Prelude.{ℕ, zero, suc, ◌+◌, ◌-◌, ◌*◌, ◌<◌, ◌≤◌, ◌≡◌, refl, true, false, length}
+use Rattle.std.specs.Prelude.{Ok, ℕ, zero, suc, ◌+◌, ◌-◌, ◌*◌, ◌<◌, ◌≤◌, ◌≡◌, refl, true, false, length}
 use Rattle.std.proofs.Common.{sym, ap, ◌∙◌, arith}
 use Rattle.std.proofs.Math.Bool.{true≢false}
 use mathlib.Core.List.{List, [], ◌∷◌, Memᴰ}
 use Rattle.prelude.proofs.Laws.Choice.{is_lt, is_ge, is_eq, is_ne, is_true, is_false, eq_elim, lt_skip, eq_take, eq_skip, b_take}
 use Rattle.prelude.specs.Refusals.{bad_day_table, bad_chain}
 use Rattle.prelude.proofs.Laws.Verdicts.{unless_bad_fine, unless_bad-false, in-turn-fine-each, each-fine-in-turn}
-use Rattle.prelude.specs.declared.refusals.Verdict.{Verdict}
 use Rattle.chains.specs.Chains.{field_of, no_record, entries, days, head_at, date_before, entry_bad, head_before, head_bad, chain_at, next_bad, linked, ordered, entry_verdict, head_verdict, links_verdict, order_verdict, chains_answer}
 use Rattle.chains.specs.Stages.{Passed, Linked}
 use Rattle.chains.specs.Valid.{ValidChains}
@@ -15,7 +14,6 @@ use Rattle.chains.proofs.Laws.Order.{chain-sorted, sorted-chain}
 use Rattle.chains.proofs.Laws.Linked.{accepted_passed, judged_linked, head_bad-false-facts, head_before-false_apart, next_in_lem}
 use Rattle.chains.proofs.Laws.Stages.{passed_answer}
 use Rattle.chains.proofs.Laws.Walks.{next-none, next-back}
-use Rattle.prelude.specs.declared.answers.CountAnswer.{CountAnswer}
 
 -- an entry before the last, and the last
 module _ (t : List ℕ) (i : ℕ) where
@@ -58,7 +56,7 @@ next_good previous next r f =
     eq_elim {X = Unit {0}} (λ _. next_bad previous next r ≡ false) (field_of next r) no_record tt tt
     (λ e. next-none previous next r e) (λ n. next-back previous next r (f n).0 (f n).1)
 
-good_links : (previous next rs : List ℕ) → ((r : ℕ) → Memᴰ r rs → next_bad previous next r ≡ false) → linked previous next rs ≡ Verdict.Fine
+good_links : (previous next rs : List ℕ) → ((r : ℕ) → Memᴰ r rs → next_bad previous next r ≡ false) → linked previous next rs ≡ Ok tt
 unfolding linked
 good_links previous next [] f = refl
 good_links previous next (r ∷ rs) f = is_false (f r (Memᴰ.head refl)) _ _ ∙ good_links previous next rs (λ x m. f x (Memᴰ.tail m))
@@ -88,7 +86,7 @@ module _ (t previous next kind minute : List ℕ) where
       head : (i : ℕ) → i < days t → head_bad t previous i ≡ false
       head i l = unless_bad_fine _ bad_chain i (in-turn-fine-each (head_verdict t previous) (days t) 0 p.head_fine i (omega arith) (omega arith))
 
-      order : (i : ℕ) → i < days t → ordered kind minute (chain_at t next i) ≡ Verdict.Fine
+      order : (i : ℕ) → i < days t → ordered kind minute (chain_at t next i) ≡ Ok tt
       order i l = in-turn-fine-each (order_verdict t next kind minute) (days t) 0 p.order-fine i (omega arith) (omega arith)
 
       g : Linked t previous next
@@ -118,10 +116,10 @@ module _ (t previous next kind minute : List ℕ) where
       head i l = head_good t previous i (v.heads i l) (λ j m. v.apart j i m l)
 
   -- "Accept exactly when": an answer that accepts, and chains that are as the sentence says
-  pub accepted-valid : (n : ℕ) → chains_answer t previous next kind minute ≡ CountAnswer.Count n → ValidChains t previous next kind minute × (n ≡ days t)
+  pub accepted-valid : (n : ℕ) → chains_answer t previous next kind minute ≡ Ok n → ValidChains t previous next kind minute × (n ≡ days t)
   accepted-valid n e =
       let p = accepted_passed t previous next kind minute n e in
       (passed-valid p.0, p.1)
 
-  pub valid-accepted : ValidChains t previous next kind minute → chains_answer t previous next kind minute ≡ CountAnswer.Count (days t)
+  pub valid-accepted : ValidChains t previous next kind minute → chains_answer t previous next kind minute ≡ Ok (days t)
   valid-accepted v = passed_answer t previous next kind minute (valid-passed v)

@@ -1,7 +1,7 @@
 -- A walk and its links, one record at a time.
 -- Assumes nothing.
 use Prim.Native.Nat.{ℕ, zero, suc, ◌-◌, ◌<◌, ◌≤◌}
-use Rattle.std.specs.Prelude.{◌≡◌, true, false, List, [], ◌∷◌, length}
+use Rattle.std.specs.Prelude.{Ok, ◌≡◌, true, false, List, [], ◌∷◌, length}
 use Rattle.std.proofs.Math.Path.{refl, ap}
 use Rattle.std.proofs.Common.{◌∙◌}
 use native.Mathlib.Omega.{arith}
@@ -9,7 +9,6 @@ use Rattle.prelude.specs.Choice.{if_lt}
 use Rattle.prelude.proofs.Laws.Choice.{is_lt, is_ge, is_eq, is_ne, is_true, is_false, eq_elim}
 use Rattle.prelude.specs.Refusals.{bad_chain}
 use Rattle.prelude.specs.Verdicts.{refused}
-use Rattle.prelude.specs.declared.refusals.Verdict.{Verdict}
 use Rattle.chains.specs.Chains.{field_of, no_record, walk, next_bad, linked}
 
 -- a walk with a record ahead, and one that is out
@@ -42,11 +41,11 @@ module _ (previous next : List ℕ) (k r : ℕ) where
   unfolding linked
   links-on h e l = ap (linked previous next) (walk-on next k r h l) ∙ is_false e _ _
 
-  pub links_end : 0 < k → next_bad previous next r ≡ false → length next ≤ field_of next r → linked previous next (walk k next r) ≡ Verdict.Fine
+  pub links_end : 0 < k → next_bad previous next r ≡ false → length next ≤ field_of next r → linked previous next (walk k next r) ≡ Ok tt
   unfolding linked
   links_end h e l = ap (linked previous next) (walk-last next k r h l) ∙ is_false e _ _
 
-  pub links-out : k ≤ 0 → linked previous next (walk k next r) ≡ Verdict.Fine
+  pub links-out : k ≤ 0 → linked previous next (walk k next r) ≡ Ok tt
   unfolding linked
   links-out h = ap (linked previous next) (walk-out next k r h)
 

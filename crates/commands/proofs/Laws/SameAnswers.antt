@@ -1,6 +1,6 @@
 -- Bytes after the end record change no answer, proved: each answer goes by what `SameBook` says of two files.
 -- Assumes nothing.
-use Rattle.std.specs.Prelude.{ℕ, ◌≡◌, List, length}
+use Rattle.std.specs.Prelude.{Result, Ok, Err, ℕ, ◌≡◌, List, length}
 use Rattle.std.proofs.Math.Path.{refl, ap}
 use Rattle.std.proofs.Common.{◌∙◌}
 use Rattle.prelude.specs.declared.refusals.Refusal.{Refusal}
@@ -10,11 +10,9 @@ use Rattle.book.specs.Books.{book_of}
 use Rattle.book.specs.SameBook.{SameBook}
 use Rattle.book.proofs.Laws.SameBook.{unfilled-same}
 use Rattle.book.specs.declared.types.Book.{Book}
-use Rattle.book.specs.declared.types.BookAnswer.{BookAnswer}
 use Rattle.falls.specs.declared.types.ShortMonth.{ShortMonth}
 use Rattle.pages.specs.Answers.{validated, falls_in, page_count_in, page_line_in, line_text, next_in}
 use Rattle.pages.specs.declared.types.Ready.{Ready}
-use Rattle.pages.specs.declared.types.Validated.{Validated}
 use Rattle.pages.specs.Pages.{falls_on}
 use Rattle.reasons.specs.Answers.{why_in}
 use Rattle.printing.specs.Answers.{page_length_in, print_in, print_leaves}
@@ -28,21 +26,21 @@ use Rattle.commands.specs.declared.types.Command.{Command}
 module _ (f g : List ℕ) (s : SameBook f g) where
   -- an answer about a day, where it agrees once the day is validated
   on_day_lem :
-      {X : Type 0} (d : CalendarDay) (p q : Validated → X) → ((a : Ready) → p (Validated.Ready a) ≡ q (Validated.Ready a))
-      → ((e : Refusal) → p (Validated.Refused e) ≡ q (Validated.Refused e)) → p (validated g d) ≡ q (validated f d)
+      {X : Type 0} (d : CalendarDay) (p q : Result Ready Refusal → X) → ((a : Ready) → p (Ok a) ≡ q (Ok a))
+      → ((e : Refusal) → p (Err e) ≡ q (Err e)) → p (validated g d) ≡ q (validated f d)
   on_day_lem d p q ready refused = rw (validated-same f g s d) (by (validated f d))
     where
-      by : (v : Validated) → p v ≡ q v
-      by (Validated.Ready a) = ready a
-      by (Validated.Refused e) = refused e
+      by : (v : Result Ready Refusal) → p v ≡ q v
+      by (Ok a) = ready a
+      by (Err e) = refused e
 
   export-same : (c : ShortMonth) (first count room : ℕ) → export_answer (shows_under c) g first count room ≡ export_answer (shows_under c) f first count room
   unfolding export_answer export_from span_answer
   export-same c first count room = ap (export_from (shows_under c) g first count room) s.book ∙ by (book_of f)
     where
-      by : (b : BookAnswer) → export_from (shows_under c) g first count room b ≡ export_from (shows_under c) f first count room b
-      by (BookAnswer.Accepted b) = rw (days-same f g s (shows_under c) first count, file-same f g s (shows_under c) first count)
-      by (BookAnswer.Refused e) = refl
+      by : (b : Result Book Refusal) → export_from (shows_under c) g first count room b ≡ export_from (shows_under c) f first count room b
+      by (Ok b) = rw (days-same f g s (shows_under c) first count, file-same f g s (shows_under c) first count)
+      by (Err e) = refl
 
   program-same : (c : Command) → response g c ≡ response f c
   unfolding response page_response export_response
@@ -77,5 +75,5 @@ module _ (f g : List ℕ) (s : SameBook f g) where
       }
 
 -- The theorem, for the book without its fillers.
-pub fillers_unseen : (f : List ℕ) {b : Book} → book_of f ≡ BookAnswer.Accepted b → SameAnswers f (unfilled f)
+pub fillers_unseen : (f : List ℕ) {b : Book} → book_of f ≡ Ok b → SameAnswers f (unfilled f)
 fillers_unseen f h = same-answers f (unfilled f) (unfilled-same f h)

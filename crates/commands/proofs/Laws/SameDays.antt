@@ -1,6 +1,6 @@
 -- What two files that are read as the same book give of days: the same pages, the same printed text and the same Calendar file.
 -- Assumes nothing.
-use Rattle.std.specs.Prelude.{ℕ, zero, suc, ◌≡◌, refl, Bool}
+use Rattle.std.specs.Prelude.{Result, Ok, ℕ, zero, suc, ◌≡◌, refl, Bool}
 use Rattle.std.proofs.Math.Path.{ap}
 use Rattle.std.proofs.Common.{⊎_elim}
 use mathlib.Core.List.Memᴰ
@@ -18,11 +18,12 @@ use Rattle.book.specs.declared.types.Entry.{Entry}
 use Rattle.pages.specs.Pages.{Numbered, numbered_from, numbered, start_of, page_of, page_line_of, nth}
 use Rattle.pages.proofs.Laws.PageFacts.{page-passes}
 use Rattle.pages.specs.Answers.{validated_day, validated, line_text}
-use Rattle.pages.specs.declared.types.LineAnswer.{LineAnswer}
 use Rattle.printing.specs.Printed.{page_line, page_lines, printed, page_text}
 use Rattle.calendar.specs.File.{Appointment}
 use Rattle.calendar_writer.specs.DayLists.{days_with}
 use Rattle.export.specs.Export.{interval_of, record_text, appointment_of, appointments_for, export_days, export_file}
+use Rattle.prelude.specs.declared.refusals.Refusal.{Refusal}
+use Rattle.pages.specs.declared.types.Line.{Line}
 
 entry_member : {x : Numbered} (n : ℕ) (es : List Entry) → Memᴰ x (numbered_from n es) → Memᴰ x.entry es
 unfolding numbered_from
@@ -37,8 +38,8 @@ Texts f g xs = (x : Numbered) → Memᴰ x xs → record_text g x ≡ record_tex
 rest : {f g : List ℕ} {x : Numbered} {xs : List Numbered} → Texts f g (x ∷ xs) → Texts f g xs
 rest t y i = t y (Memᴰ.tail i)
 
-line_along : (f g : List ℕ) (d : DayFacts) (xs : List Numbered) → Texts f g xs → (k : ℕ) (none : LineAnswer) → line_text g none ≡ line_text f none
-    → line_text g (nth xs k none (λ x. LineAnswer.Line (page_line_of d x))) ≡ line_text f (nth xs k none (λ x. LineAnswer.Line (page_line_of d x)))
+line_along : (f g : List ℕ) (d : DayFacts) (xs : List Numbered) → Texts f g xs → (k : ℕ) (none : Result Line Refusal) → line_text g none ≡ line_text f none
+    → line_text g (nth xs k none (λ x. Ok (page_line_of d x))) ≡ line_text f (nth xs k none (λ x. Ok (page_line_of d x)))
 unfolding nth line_text page_line_of
 line_along f g d [] t k none e = e
 line_along f g d (x ∷ xs) t zero none e = t x (Memᴰ.head refl)
@@ -73,8 +74,8 @@ module _ (f g : List ℕ) (s : SameBook f g) where
   unfolding validated
   validated-same d = ap (validated_day d) s.book
 
-  pub line-text-same : (p : Numbered → Bool) (d : DayFacts) (k : ℕ) (none : LineAnswer) → line_text g none ≡ line_text f none
-      → line_text g (nth (page_of p g) k none (λ x. LineAnswer.Line (page_line_of d x))) ≡ line_text f (nth (page_of p f) k none (λ x. LineAnswer.Line (page_line_of d x)))
+  pub line-text-same : (p : Numbered → Bool) (d : DayFacts) (k : ℕ) (none : Result Line Refusal) → line_text g none ≡ line_text f none
+      → line_text g (nth (page_of p g) k none (λ x. Ok (page_line_of d x))) ≡ line_text f (nth (page_of p f) k none (λ x. Ok (page_line_of d x)))
   line-text-same p d k none e = rw (page-same p) (line_along f g d (page_of p f) (page-texts p) k none e)
 
   pub page-text-same : (shows : DayFacts → Numbered → Bool) (d : DayFacts) → page_text shows g d ≡ page_text shows f d

@@ -1,6 +1,6 @@
 -- Laws of words: what is spelled, and that days and counts are compared as they are, however long their numbers.
 -- Assumes nothing.
-use Rattle.std.specs.Prelude.{ℕ, ◌≡◌, refl, true, false, List, [], ◌∷◌, length}
+use Rattle.std.specs.Prelude.{Result, Ok, Err, ℕ, ◌≡◌, refl, true, false, List, [], ◌∷◌, length}
 use Rattle.std.proofs.Common.{sym, ◌∙◌, arith}
 use Rattle.std.proofs.lemmas.Bool.{false≢true}
 use Rattle.prelude.proofs.Laws.Choice.{is_lt, lt_elim, eq_take}
@@ -8,7 +8,6 @@ use Rattle.prelude.specs.Bytes.{byte}
 use Rattle.digits.specs.Digits.{capped}
 use Rattle.digits.proofs.Laws.Numbers.{capped_below, capped_above}
 use Rattle.book.specs.Books.{book_of}
-use Rattle.book.specs.declared.types.BookAnswer.{BookAnswer}
 use Rattle.falls.specs.declared.types.ShortMonth.{ShortMonth}
 use Rattle.pages.specs.Answers.{validated_day, validated}
 use Rattle.export.specs.Export.{span_ok}
@@ -16,6 +15,8 @@ use Rattle.export.proofs.Laws.Answers.{first_beyond, count_beyond}
 use Rattle.commands.specs.Words.{spelled}
 use Rattle.commands.specs.Responses.{export_response}
 use Rattle.commands.proofs.Laws.Responses.{export_beyond}
+use Rattle.prelude.specs.declared.refusals.Refusal.{Refusal}
+use Rattle.book.specs.declared.types.Book.{Book}
 
 -- four bytes are those at places 0 to 3
 four_bytes : (w : List ℕ) → length w ≡ 4 → w ≡ byte w 0 ∷ byte w 1 ∷ byte w 2 ∷ byte w 3 ∷ []
@@ -37,13 +38,13 @@ spelled_is w a b c d e =
     four_bytes w l.0 ∙ rw (e0.0, e1.0, e2.0, e3.0)
 
 -- "2^32 + 4,822 is 11, not day 4,822": a page is asked for by the number itself
-validated-capped_of : (b : BookAnswer) (v : ℕ) → validated_day (record { 0 = capped v }) b ≡ validated_day (record { 0 = v }) b
+validated-capped_of : (b : Result Book Refusal) (v : ℕ) → validated_day (record { 0 = capped v }) b ≡ validated_day (record { 0 = v }) b
 unfolding validated_day
-validated-capped_of (BookAnswer.Accepted b) v =
-    lt_elim {X = Unit {0}} (λ _. validated_day (record { 0 = capped v }) (BookAnswer.Accepted b) ≡ validated_day (record { 0 = v }) (BookAnswer.Accepted b)) v 65536 tt tt
+validated-capped_of (Ok b) v =
+    lt_elim {X = Unit {0}} (λ _. validated_day (record { 0 = capped v }) (Ok b) ≡ validated_day (record { 0 = v }) (Ok b)) v 65536 tt tt
     (λ h. rw (capped_below h))
     (λ h. rw (capped_above h) (is_lt (omega arith) _ _ ∙ sym (is_lt (omega arith) _ _)))
-validated-capped_of (BookAnswer.Refused e) v = refl
+validated-capped_of (Err e) v = refl
 
 pub validated-capped : (f : List ℕ) (v : ℕ) → validated f (record { 0 = capped v }) ≡ validated f (record { 0 = v })
 unfolding validated

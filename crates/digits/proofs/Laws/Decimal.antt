@@ -55,6 +55,13 @@ length_more {n} h = ap length (decimal_more h) ∙ length-append (decimal (n / 1
 pub length_positive : (n : ℕ) → 0 < length (decimal n)
 length_positive n = ten_or_not n (λ h. let e = length_one h in omega arith) (λ h. let e = length_more h in omega arith)
 
+-- by how many digits there are
+pub ten_of_more : {n : ℕ} → 1 < length (decimal n) → 10 ≤ n
+ten_of_more {n} h = ten_or_not n (λ s. let e = length_one s in omega arith) (λ g. g)
+
+pub below_ten : {n : ℕ} → length (decimal n) ≤ 1 → n < 10
+below_ten {n} h = ten_or_not n (λ s. s) (λ g. let e = length_more g in let p = length_positive (n / 10) in omega arith)
+
 -- by the powers of ten
 pub length_above : (k n : ℕ) → 10 ^ k ≤ n → k < length (decimal n)
 length_above zero n h = length_positive n

@@ -2,6 +2,9 @@
 -- Assumes nothing.
 use Rattle.std.specs.Prelude.{ℕ, ◌+◌, ◌-◌, ◌*◌, ◌/◌, ◌%◌, ◌<◌, ◌≤◌, ◌≡◌, refl, ◌↔◌, true, false, List, [], ◌∷◌, ◌++◌, length, drop}
 use Rattle.std.proofs.Common.{◌∙◌, arith, add-one, drop_of_length-le, drop-cons}
+use Rattle.std.specs.Char.{is_ascii_digit}
+use Rattle.std.specs.List.{list_all}
+use Rattle.std.proofs.lemmas.Bool.{le-leb, lt-leb}
 use Rattle.prelude.proofs.Laws.Choice.{is_lt, is_ge, is_eq, is_ne, lt_elim, lt_skip, constructors_differ}
 use Rattle.prelude.specs.Bytes.{byte}
 use Rattle.digits.specs.Digits.{decimal, value_from, value, all_digits, is_number, capped}
@@ -68,6 +71,14 @@ digits_next w i h l m = rw (drop-cons w i 0 h, add-one i) (is_ge l _ _ ∙ is_ge
 pub digits_end : (w : List ℕ) (i : ℕ) → length w ≤ i → all_digits (drop i w) ≡ true
 unfolding all_digits
 digits_end w i h = rw (drop_of_length-le w h)
+
+-- It is the library's test of each byte.
+pub digits_all : (xs : List ℕ) → list_all is_ascii_digit xs ≡ all_digits xs
+unfolding all_digits
+digits_all [] = refl
+digits_all (x ∷ xs) =
+    lt_elim (λ z. list_all is_ascii_digit (x ∷ xs) ≡ z) x 48 _ _ (λ l. simp (lt-leb 48 x l))
+    (λ g. lt_elim (λ z. list_all is_ascii_digit (x ∷ xs) ≡ z) 57 x _ _ (λ l. simp (le-leb 48 x g, lt-leb x 57 l)) (λ h. simp (le-leb 48 x g, le-leb x 57 h) (digits_all xs)))
 
 -- a digit more
 digits_nil : all_digits [] ≡ true

@@ -1,6 +1,6 @@
 -- Document 01, "One whole case": the export of the 33-byte book, 192 bytes with day 4,822 and 64 bytes without.
 -- Assumes nothing.
-use Rattle.std.specs.Prelude.{ℕ, ◌≡◌, refl, Bool, true, false, [], ◌∷◌, ◌++◌}
+use Rattle.std.specs.Prelude.{Ok, Err, ℕ, ◌≡◌, refl, Bool, true, false, [], ◌∷◌, ◌++◌}
 use Rattle.prelude.specs.Choice.{if_lt, if_eq, if_b}
 use Rattle.prelude.specs.Bytes.{bit, le16}
 use Rattle.prelude.specs.Refusals.{no_room, refusal}
@@ -28,7 +28,6 @@ use Rattle.calendar.specs.File.{zeros, filled, appointment_bytes, appointments_b
 use Rattle.calendar_writer.specs.DayLists.{add_day, days_with, past_last_block_from, past_last_block}
 use Rattle.export.specs.Export.{code_of, interval_of, settings_for, special_time, appointment_of, appointments_for, export_days, export_file, sized, span_answer, span_ok, export_from, export_answer, leaves_file, export_leaves, shows_under}
 use Rattle.export.specs.Demand.{day_list, busy_days, file_size}
-use Rattle.prelude.specs.declared.answers.CountAnswer.{CountAnswer}
 use Rattle.calendar.proofs.Laws.Examples as calendar
 
 abbrev shows : ℕ → Numbered → Bool
@@ -50,7 +49,7 @@ unfolding total busy_days page_of sort insert keep numbered numbered_from entrie
 case_sizes = (refl, refl, refl)
 
 -- a room of 192 bytes is just enough; the program's
-pub case_answers : (export_answer shows case 4820 7 192 ≡ CountAnswer.Count 192) × (export_answer shows case 4820 7 191 ≡ CountAnswer.Refused (refusal no_room)) × (export_answer shows case 4820 7 65536 ≡ CountAnswer.Count 192)
+pub case_answers : (export_answer shows case 4820 7 192 ≡ Ok 192) × (export_answer shows case 4820 7 191 ≡ Err (refusal no_room)) × (export_answer shows case 4820 7 65536 ≡ Ok 192)
 unfolding export_answer export_from span_answer sized past_last_block past_last_block_from span_ok book_of counted accepted fillers_from after_end_record book_identified book_mark settings_ok settings_in_range flags_ok export_file export_days days_with add_day appointments_for appointment_of special_time settings_for interval_of code_of bit settings_of page_of sort insert keep numbered numbered_from entries_of entry_at places_of places_in walk_of walk_from walk_f step_at judge_head body_step judge_body lengths_ok lengths_fit fields_ok texts_ok dated_of record_of fixed_of dated_ok times_ok real month_length leap no_zero note_ok lines_of short_lines times_of falls dated_falls facts_of date_of next_date weekday_of next_weekday file_of head_bytes table descriptor_bytes alarms filled blocks block_bytes appointments_bytes appointment_bytes le16 if_lt if_eq if_b
 case_answers = (refl, refl, refl)
 

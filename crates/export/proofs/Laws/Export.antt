@@ -1,10 +1,12 @@
 -- From what the passes have to what the export is: its days, its file, and its answer.
 -- Assumes nothing.
-use Rattle.std.specs.Prelude.{ℕ, ◌<◌, ◌≤◌, ◌≡◌, Bool, List, map, length, take}
+use Rattle.std.specs.Prelude.{Result, Ok, Err, ℕ, ◌<◌, ◌≤◌, ◌≡◌, Bool, List, map, length, take}
 use Rattle.std.proofs.Math.Path.{refl, ap}
 use Rattle.std.proofs.Common.{sym, ◌∙◌, arith, length-take-le, get_or-take}
 use Rattle.std.proofs.lemmas.List.{length-replicate, get_or-replicate}
-use Rattle.prelude.proofs.Laws.Choice.{eq_elim, constructors_differ}
+use mir.Val.{bool_byte}
+use Rattle.prelude.specs.Bytes.{bit}
+use Rattle.prelude.proofs.Laws.Choice.{b_elim, eq_elim, constructors_differ}
 use Rattle.prelude.specs.declared.refusals.Refusal.{Refusal}
 use Rattle.sorting.specs.Keep.{keep}
 use Rattle.sorting.specs.Order.{sort}
@@ -13,7 +15,6 @@ use Rattle.days.specs.Days.{last_day}
 use Rattle.days.specs.Facts.{facts_of}
 use Rattle.days.specs.Answers.{facts_answer}
 use Rattle.days.proofs.Laws.Answers.{facts-given, facts_in_lem}
-use Rattle.days.specs.declared.answers.FactsAnswer.{FactsAnswer}
 use Rattle.days.specs.declared.types.DayFacts.{DayFacts}
 use Rattle.day_steps.proofs.Laws.Moves.{facts_of-day_number}
 use Rattle.day_steps.specs.Codes.{Spanned}
@@ -23,7 +24,6 @@ use Rattle.book.specs.Invariants.{AcceptedBook}
 use Rattle.book.proofs.Laws.Books.{book_accepted}
 use Rattle.book.proofs.Laws.Counts.{count_most}
 use Rattle.book.specs.declared.types.Book.{Book}
-use Rattle.book.specs.declared.types.BookAnswer.{BookAnswer}
 use Rattle.pages.specs.Pages.{Numbered, numbered}
 use Rattle.pages.specs.Codes.{code}
 use Rattle.calendar.specs.File.{zeros, file_of}
@@ -37,7 +37,6 @@ use Rattle.export.proofs.Laws.Records.{good_book}
 use Rattle.export.specs.Passes.{AtMost, kept_in, Weighed}
 use Rattle.export.specs.Invariants.{MarksShown, ReadyToFill, Gathered}
 use Rattle.export.proofs.Laws.Ready.{gathered_ordered, ready-sums}
-use Rattle.prelude.specs.declared.answers.CountAnswer.{CountAnswer}
 
 interval_some : (g : ℕ) → 0 < interval_of g
 unfolding interval_of
@@ -63,7 +62,7 @@ module _ (shows : ℕ → Numbered → Bool) (f : List ℕ) (first count : ℕ) 
 -- what collecting leaves
 module _ {f : List ℕ} {shows : ℕ → Numbered → Bool} {first : ℕ} {mark : ℕ → Numbered → Bool} {days sums codes : List ℕ} {b : Book} where
   pub collect-gathered :
-      book_of f ≡ BookAnswer.Accepted b → Spanned first days → MarksShown f shows first mark days
+      book_of f ≡ Ok b → Spanned first days → MarksShown f shows first mark days
       → codes ≡ map code (keep (kept_in mark (length days)) (numbered f)) → Weighed f mark days sums → Gathered f shows first mark days sums codes
   collect-gathered e s m k w =
       let a : AcceptedBook f b = book_accepted f e in
@@ -98,6 +97,11 @@ module _ {f : List ℕ} {shows : ℕ → Numbered → Bool} {first : ℕ} {mark 
       let q = e ∙ gathered-measure in
       record { length-is = ap (λ (x : Measure). x.length) q; few = ap (λ (x : Measure). x.descriptors) q; past_is = ap (λ (x : Measure). x.past_last_block) q }
 
+-- a mark that the code takes as a number
+pub mark_bit : (b : Bool) → bool_byte b ≡ bit b
+unfolding bit
+mark_bit b = b_elim (λ n. bool_byte b ≡ n) b 1 0 (λ h. rw h) (λ h. rw h)
+
 -- the front of a list of zeros
 pub length-take-zeros : (m n : ℕ) → n ≤ m → length (take n (zeros m)) ≡ n
 length-take-zeros m n h = length-take-le n (zeros m) (rw (length-replicate {A = ℕ} m 0) h)
@@ -112,7 +116,7 @@ take-zeros_at_most m n h =
     }
 
 -- a book has at most 4,680 records
-pub records_most : (f : List ℕ) {b : Book} → book_of f ≡ BookAnswer.Accepted b → b.records ≤ most_records
+pub records_most : (f : List ℕ) {b : Book} → book_of f ≡ Ok b → b.records ≤ most_records
 records_most f {b} e =
     let a : AcceptedBook f b = book_accepted f e in
     omega (arith, count_most f a.long, a.size, a.count)
@@ -122,35 +126,35 @@ pub record First (first : ℕ) (g : DayFacts) : Type 0 where
   pub day : g.day.0 ≡ first
   pub facts : g ≡ facts_of g.day.0
 
-pub first_facts : (first : ℕ) {g : DayFacts} → facts_answer (record { 0 = first }) ≡ FactsAnswer.Facts g → First first g
+pub first_facts : (first : ℕ) {g : DayFacts} → facts_answer (record { 0 = first }) ≡ Ok g → First first g
 first_facts first {g} e =
     let q : facts_of first ≡ g = (facts-given e).1 in
     let d : g.day.0 ≡ first = ap (λ (x : DayFacts). x.day.0) (sym q) ∙ facts_of-day_number first in
     record { day = d; facts = sym q ∙ ap facts_of (sym d) }
 
-pub first_day_not_refused : (first : ℕ) {r : Refusal} → first ≤ last_day → facts_answer (record { 0 = first }) ≡ FactsAnswer.Refused r → ⊥
+pub first_day_not_refused : (first : ℕ) {r : Refusal} → first ≤ last_day → facts_answer (record { 0 = first }) ≡ Err r → ⊥
 first_day_not_refused first h e = let q = sym (facts_in_lem (record { 0 = first }) h) ∙ e in constructors_differ cc
 
 -- a span's answer and buffer, by the measure
 module _ (shows : ℕ → Numbered → Bool) (f : List ℕ) (first count : ℕ) where
-  pub span-answer-sized : (room : ℕ) {size : ℕ} {past : Bool} {r : CountAnswer} → past ≡ past_last_block (export_days shows f first count) → size ≡ length (export_file shows f first count) → r ≡ sized room past size → r ≡ span_answer shows f first count room
+  pub span-answer-sized : (room : ℕ) {size : ℕ} {past : Bool} {r : Result ℕ Refusal} → past ≡ past_last_block (export_days shows f first count) → size ≡ length (export_file shows f first count) → r ≡ sized room past size → r ≡ span_answer shows f first count room
   unfolding span_answer
   span-answer-sized room p s e = e ∙ rw (p, s)
 
-  pub span-leaves-from : (out : List ℕ) {left : List ℕ} {r : CountAnswer} → r ≡ span_answer shows f first count (length out) → left ≡ leaves_file (export_file shows f first count) out r → left ≡ span_leaves shows f first count out
+  pub span-leaves-from : (out : List ℕ) {left : List ℕ} {r : Result ℕ Refusal} → r ≡ span_answer shows f first count (length out) → left ≡ leaves_file (export_file shows f first count) out r → left ≡ span_leaves shows f first count out
   unfolding span_leaves
   span-leaves-from out e l = l ∙ ap (leaves_file (export_file shows f first count) out) e
 
-  pub span-leaves-leaves-file : (out : List ℕ) {left : List ℕ} {r : CountAnswer} → r ≡ span_answer shows f first count (length out) → left ≡ span_leaves shows f first count out → left ≡ leaves_file (export_file shows f first count) out r
+  pub span-leaves-leaves-file : (out : List ℕ) {left : List ℕ} {r : Result ℕ Refusal} → r ≡ span_answer shows f first count (length out) → left ≡ span_leaves shows f first count out → left ≡ leaves_file (export_file shows f first count) out r
   unfolding span_leaves
   span-leaves-leaves-file out e l = l ∙ ap (leaves_file (export_file shows f first count) out) (sym e)
 
 -- the answer and the buffer, once the book's own answer is known
 module _ (shows : ℕ → Numbered → Bool) (f : List ℕ) (first count : ℕ) (out : List ℕ) where
-  pub export-answer-from : {a : BookAnswer} {r : CountAnswer} → book_of f ≡ a → r ≡ export_from shows f first count (length out) a → r ≡ export_answer shows f first count (length out)
+  pub export-answer-from : {a : Result Book Refusal} {r : Result ℕ Refusal} → book_of f ≡ a → r ≡ export_from shows f first count (length out) a → r ≡ export_answer shows f first count (length out)
   unfolding export_answer
   export-answer-from q e = e ∙ ap (export_from shows f first count (length out)) (sym q)
 
-  pub export-leaves-from : {r : CountAnswer} {left : List ℕ} → r ≡ export_answer shows f first count (length out) → left ≡ leaves_file (export_file shows f first count) out r → left ≡ export_leaves shows f first count out
+  pub export-leaves-from : {r : Result ℕ Refusal} {left : List ℕ} → r ≡ export_answer shows f first count (length out) → left ≡ leaves_file (export_file shows f first count) out r → left ≡ export_leaves shows f first count out
   unfolding export_leaves
   export-leaves-from e l = l ∙ ap (leaves_file (export_file shows f first count) out) e

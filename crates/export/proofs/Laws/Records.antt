@@ -1,6 +1,6 @@
 -- What an accepted book says of each of its records, as the export takes them: start minute and text; and that all their texts are no longer than the book.
 -- Assumes nothing.
-use Rattle.std.specs.Prelude.{ℕ, zero, suc, ◌+◌, ◌≤◌, ◌≡◌, true, length, drop}
+use Rattle.std.specs.Prelude.{Ok, ℕ, zero, suc, ◌+◌, ◌≤◌, ◌≡◌, true, length, drop}
 use Rattle.std.proofs.Common.{⊎_elim, arith, length-take}
 use mathlib.Core.List.Memᴰ
 use mathlib.Core.List.{List, [], ◌∷◌, Memᴰ}
@@ -18,7 +18,6 @@ use Rattle.book.specs.Books.{book_of, entry_at, places_of}
 use Rattle.book.specs.Invariants.{RecordAt, AcceptedBook}
 use Rattle.book.proofs.Laws.Books.{book_accepted, Cursor, cursor_first, Ahead, cursor-ahead}
 use Rattle.book.specs.declared.types.Book.{Book}
-use Rattle.book.specs.declared.types.BookAnswer.{BookAnswer}
 use Rattle.falls.specs.Times.{times_of}
 use Rattle.pages.specs.Pages.{Numbered}
 use Rattle.pages.proofs.Laws.Pages.{numbered_at, numbered_first, numbered_end, numbered_cursor}
@@ -82,7 +81,7 @@ ahead_good f (suc k) n at e c =
       sum = rw (more, total-cons (size_of f) (record_at f n at) (numbered_at f (suc n))) (omega (arith, i.sum, t.size));
     }
 
-pub good_book : (f : List ℕ) {b : Book} → book_of f ≡ BookAnswer.Accepted b → GoodBook f
+pub good_book : (f : List ℕ) {b : Book} → book_of f ≡ Ok b → GoodBook f
 good_book f {b} e =
     let a : AcceptedBook f b = book_accepted f e in
     let g : GoodAhead f 0 12 = ahead_good f (length (places_of f)) 0 12 (omega arith) (cursor_first f a.long) in

@@ -1,16 +1,14 @@
 -- The names across C, by example: the case of document 01, its day, and a record of each other kind, set by hand from source 000 (records
 -- `Laws.Layouts`). Round trips alone would hold with two fields exchanged both ways.
 -- Assumes nothing.
-use Rattle.std.specs.Prelude.{ℕ, ◌≡◌, Bool, true, false, List, [], ◌∷◌, map}
+use Rattle.std.specs.Prelude.{Ok, ℕ, ◌≡◌, Bool, true, false, List, [], ◌∷◌, map}
 use Rattle.std.proofs.Math.Path.{refl}
 use Rattle.std.proofs.Common.{ap}
-use Rattle.days.specs.declared.answers.FactsAnswer.{FactsAnswer}
 use Rattle.records.proofs.Laws.Layouts.{weekly_record, monthly_by_date_record, monthly_by_position_record, yearly_record, to_do_record}
 use Rattle.book.specs.Books.{book_of, record_answer}
 use Rattle.book.proofs.Laws.Examples.{case, case-accepted, case_record_lem}
 use Rattle.book.specs.declared.types.Entry.{Entry}
 use Rattle.falls.specs.declared.types.Falling.{Falling}
-use Rattle.pages.specs.declared.types.FallsAnswer.{FallsAnswer}
 use Rattle.reasons.specs.Holds.{in_order}
 use Rattle.marshal.specs.BookAnswers.{book_out}
 use Rattle.marshal.specs.DayAnswers.{facts_out}
@@ -27,7 +25,7 @@ case_book_out = ap book_out case-accepted
 
 -- day 4,822 is Monday, 15 March 1993, and that month has 31 days
 pub case-facts_out :
-    facts_out (FactsAnswer.Facts (record { day = record { 0 = 4822 }; date = record { year = 1993; month = 3; day = 15 }; weekday = 2; length = 31 }))
+    facts_out (Ok (record { day = record { 0 = 4822 }; date = record { year = 1993; month = 3; day = 15 }; weekday = 2; length = 31 }))
     ≡ record { number = 0; place = 0; calendar_day = 4822; year = 1993; month = 3; day = 15; weekday = 2; month_length = 31 }
 unfolding facts_out
 case-facts_out = refl
@@ -61,7 +59,7 @@ case-places_out = rw case_record_lem
 
 -- the header's numbers: not, on its own day, moved
 pub falls_out_lem :
-    (falls_out (FallsAnswer.Falls Falling.No) ≡ record { number = 0; place = 0; falls = 0 }) × (falls_out (FallsAnswer.Falls Falling.Own) ≡ record { number = 0; place = 0; falls = 1 }) × (falls_out (FallsAnswer.Falls Falling.Moved) ≡ record { number = 0; place = 0; falls = 2 })
+    (falls_out (Ok Falling.No) ≡ record { number = 0; place = 0; falls = 0 }) × (falls_out (Ok Falling.Own) ≡ record { number = 0; place = 0; falls = 1 }) × (falls_out (Ok Falling.Moved) ≡ record { number = 0; place = 0; falls = 2 })
 unfolding falls_out falling_out
 falls_out_lem = (refl, refl, refl)
 

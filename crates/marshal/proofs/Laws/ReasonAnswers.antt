@@ -1,6 +1,6 @@
 -- No two reasons have one number, and a refusal has none of them: so a number says what its reason says.
 -- Assumes nothing.
-use Rattle.std.specs.Prelude.{ℕ, ◌≡◌, refl, List}
+use Rattle.std.specs.Prelude.{Result, Ok, Err, ℕ, ◌≡◌, refl, List}
 use Rattle.std.proofs.Common.{sym, ap, subst, ◌∙◌}
 use Rattle.std.proofs.Math.Option.{Option, none, some}
 use Rattle.prelude.specs.Choice.{if_eq}
@@ -12,9 +12,9 @@ use Rattle.reasons.specs.Answers.{record_why}
 use Rattle.reasons.specs.Holds.{Explained, Promised}
 use Rattle.reasons.proofs.Laws.Calls.{why_promised}
 use Rattle.reasons.specs.declared.types.Reason.{Reason}
-use Rattle.reasons.specs.declared.types.ReasonAnswer.{ReasonAnswer}
 use Rattle.marshal.specs.ReasonAnswers.{reason_number, reason_out, ExplainedOut}
 use Rattle.marshal.specs.declared.reason_answers.ReasonOut.{ReasonOut}
+use Rattle.prelude.specs.declared.refusals.Refusal.{Refusal}
 
 -- the reason of a number
 unfoldable reason_in : ℕ → Option Reason
@@ -51,11 +51,11 @@ none-some e = constructors_differ cc
 some_inj : {p q : Reason} → ◌≡◌ {A = Option Reason} (some p) (some q) → p ≡ q
 some_inj e = cc
 
-by_answer : (f : List ℕ) (c : ShortMonth) (n : CalendarDay) (k : ℕ) (a : ReasonAnswer) → Promised f c n k a → ExplainedOut f c n k (reason_out a)
+by_answer : (f : List ℕ) (c : ShortMonth) (n : CalendarDay) (k : ℕ) (a : Result Reason Refusal) → Promised f c n k a → ExplainedOut f c n k (reason_out a)
 unfolding reason_out
-by_answer f c n k (ReasonAnswer.Reason p) h q e =
+by_answer f c n k (Ok p) h q e =
     subst (Explained f c (facts_of n.0) k) (some_inj (sym (number_back p) ∙ ap reason_in e ∙ number_back q)) (h p refl)
-by_answer f c n k (ReasonAnswer.Refused r) h q e = absurd (none-some (sym zero-none ∙ ap reason_in e ∙ number_back q))
+by_answer f c n k (Err r) h q e = absurd (none-some (sym zero-none ∙ ap reason_in e ∙ number_back q))
 
 -- an answer that crosses as defined keeps what it promises
 pub explained_out :

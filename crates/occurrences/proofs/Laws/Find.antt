@@ -1,7 +1,7 @@
 -- The search of a rule's next day: which days are passed over.
 -- Assumes nothing.
 use Rattle.std.specs.Prelude.{◌≡◌, ℕ, ◌+◌, ◌-◌, ◌<◌, ◌≤◌, Bool, false}
-use Rattle.std.proofs.Common.{arith}
+use Rattle.std.proofs.Common.{sym, ap, ◌∙◌, arith}
 use Rattle.prelude.proofs.Laws.Choice.{lt_elim}
 use Rattle.days.specs.Days.{last_day}
 use Rattle.days.specs.Facts.{facts_of}
@@ -23,6 +23,20 @@ start_reaches r {f} a =
     (λ _. reaches_most (omega arith) (moved_reaches (date_of_code r.first) a))
     (λ _. reaches_same r.first a)
 
+pub start-reached : (r : Rule) {f s : DayFacts} → FactsAt f f.day.0 → s ≡ start_from r f → Reaches f r.first s
+start-reached r a e = rw e (start_reaches r a)
+
+-- the code of the day on which the search stands
+module _ {g : DayFacts} (a : FactsAt g g.day.0) {p : ℕ} (e : p ≡ day_code g) where
+  pub code-here : p ≡ day_code (facts_of g.day.0)
+  code-here = e ∙ ap (λ (x : DayFacts). day_code x) a.facts
+
+  pub wait-here : (r : Rule) {w : ℕ} → w ≡ wait_for r p → w ≡ wait_for r (day_code (facts_of g.day.0))
+  wait-here r h = h ∙ ap (λ (p : ℕ). wait_for r p) code-here
+
+  pub shown-here : (c : ShortMonth) (r : Rule) {t z : Bool} → t ≡ rule_shows c r p → t ≡ z → rule_shows c r (day_code (facts_of g.day.0)) ≡ z
+  shown-here c r h k = ap (λ (p : ℕ). rule_shows c r p) (sym code-here) ∙ sym h ∙ k
+
 module _ (c : ShortMonth) (r : Rule) where
   -- whether the rule shows on a day
   abbrev pub search-shown : ℕ → Bool
@@ -41,6 +55,9 @@ module _ (c : ShortMonth) (r : Rule) where
       let h = s.at.high in
       let k = facts_known d (omega arith) in
       shows_out c r _ (in_dates-before_first r _ (rw (day_code_holds k).date (s.before d l m)))
+
+  pub free-start : {f g : DayFacts} {n : ℕ} → Reaches f r.first g → Free g.day.0 n → Free f.day.0 n
+  free-start s x = free-join (free-before s) x
 
   -- after the last date
   pub free-after : (n : ℕ) → r.last < date_in (day_code (facts_of n)) → Free n (last_day + 1)

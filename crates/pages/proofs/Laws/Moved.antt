@@ -1,12 +1,11 @@
 -- Document 02, R-7, over the questions: a line is marked just where the question answers moved, and what shows on pages, in the search and
 -- elsewhere is what falls, moved or not.
 -- Assumes nothing.
-use Rattle.std.specs.Prelude.{ℕ, zero, suc, ◌<◌, ◌≡◌, refl, Bool, length, get_or}
+use Rattle.std.specs.Prelude.{Result, Ok, Err, ℕ, zero, suc, ◌<◌, ◌≡◌, refl, Bool, length, get_or}
 use Rattle.std.proofs.Common.{sym, ◌∙◌, zero-add}
 use Rattle.std.proofs.Math.Path.{ap}
 use mathlib.Core.List.{List, [], ◌∷◌, Memᴰ}
 use Rattle.prelude.specs.Choice.{if_b}
-use Rattle.prelude.proofs.Laws.Choice.{constructors_differ}
 use Rattle.prelude.specs.Refusals.{no_such_number, refusal}
 use Rattle.prelude.specs.declared.refusals.Refusal.{Refusal}
 use Rattle.sorting.specs.Keep.{keep}
@@ -23,10 +22,9 @@ use Rattle.pages.specs.Invariants.{record_at}
 use Rattle.pages.proofs.Laws.Decoding.{Placed, code_placed}
 use Rattle.pages.proofs.Laws.Nth.{nth-record}
 use Rattle.pages.proofs.Laws.PageFacts.{of_number, page-passes, page_once}
-use Rattle.pages.specs.declared.types.FallsAnswer.{FallsAnswer}
 use Rattle.pages.specs.declared.types.Line.{Line}
-use Rattle.pages.specs.declared.types.LineAnswer.{LineAnswer}
-use Rattle.pages.specs.declared.types.Validated.{Validated}
+use Rattle.pages.specs.declared.types.Ready.{Ready}
+use Rattle.prelude.proofs.Laws.Results.{err_not_ok, ok_inj}
 
 -- whether the record falls on the day, moved or not
 abbrev pub falling_shows : ShortMonth → DayFacts → Numbered → Bool
@@ -54,19 +52,13 @@ nth_found z [] k e = absurd (z e)
 nth_found z (x ∷ xs) zero e = record { x = x; here = Memᴰ.head refl; gives = e }
 nth_found z (x ∷ xs) (suc k) e = let r = nth_found z xs k e in record { x = r.x; here = Memᴰ.tail r.here; gives = r.gives }
 
-refused_not : {e : Refusal} {l : Line} → LineAnswer.Refused e ≡ LineAnswer.Line l → ⊥
-refused_not e = constructors_differ cc
-
-line_inj : {l m : Line} → LineAnswer.Line l ≡ LineAnswer.Line m → l ≡ m
-line_inj e = cc
-
 -- what the question answers of the record of a line
-abbrev pub answer_of : Line → FallsAnswer
-answer_of l = FallsAnswer.Falls (if_b l.moved Falling.Moved Falling.Own)
+abbrev pub answer_of : Line → Result Falling Refusal
+answer_of l = Ok (if_b l.moved Falling.Moved Falling.Own)
 
-module _ (f : List ℕ) (c : ShortMonth) (d : DayFacts) (none : FallsAnswer) where
-  abbrev asked : Numbered → FallsAnswer
-  asked x = FallsAnswer.Falls (falling c d x.entry.«record»)
+module _ (f : List ℕ) (c : ShortMonth) (d : DayFacts) (none : Result Falling Refusal) where
+  abbrev asked : Numbered → Result Falling Refusal
+  asked x = Ok (falling c d x.entry.«record»)
 
   -- the record of a number is asked about as it stands in the book
   nth-asked : {x : Numbered} → Memᴰ x (page_on c d f) → nth (numbered f) (page_line_of d x).number none asked ≡ answer_of (page_line_of d x)
@@ -78,18 +70,18 @@ module _ (f : List ℕ) (c : ShortMonth) (d : DayFacts) (none : FallsAnswer) whe
       ap (λ (z : Numbered). nth (numbered f) z.number none asked) e
       ∙ nth-record f none asked r.index r.inside
       ∙ ap asked (sym e)
-      ∙ ap FallsAnswer.Falls (falling_missing c d x.entry.«record» p.1)
+      ∙ ap Ok (falling_missing c d x.entry.«record» p.1)
 
-line_in : (f : List ℕ) (c : ShortMonth) (k : ℕ) (v : Validated) {l : Line} → page_line_in (falls_on c) f k v ≡ LineAnswer.Line l → falls_in f c l.number v ≡ answer_of l
+line_in : (f : List ℕ) (c : ShortMonth) (k : ℕ) (v : Result Ready Refusal) {l : Line} → page_line_in (falls_on c) f k v ≡ Ok l → falls_in f c l.number v ≡ answer_of l
 unfolding page_line_in falls_in
-line_in f c k (Validated.Refused r) e = absurd (refused_not e)
-line_in f c k (Validated.Ready a) {l} e =
-    let r = nth_found refused_not (page_on c a.facts f) k e in
-    let q : page_line_of a.facts r.x ≡ l = line_inj r.gives in
-    rw q at (nth-asked f c a.facts (FallsAnswer.Refused (refusal no_such_number)) r.here)
+line_in f c k (Err r) e = absurd (err_not_ok e)
+line_in f c k (Ok a) {l} e =
+    let r = nth_found err_not_ok (page_on c a.facts f) k e in
+    let q : page_line_of a.facts r.x ≡ l = ok_inj r.gives in
+    rw q at (nth-asked f c a.facts (Err (refusal no_such_number)) r.here)
 
 -- a line is marked exactly where the question answers moved, and else the question answers its own day
 pub line_falling :
     (f : List ℕ) (c : ShortMonth) (n : CalendarDay) (k : ℕ) {l : Line}
-    → page_line_at (falls_on c) f n k ≡ LineAnswer.Line l → record_falls f c n l.number ≡ answer_of l
+    → page_line_at (falls_on c) f n k ≡ Ok l → record_falls f c n l.number ≡ answer_of l
 line_falling f c n k e = line_in f c k (validated f n) e

@@ -10,11 +10,11 @@ use Rattle.prelude.proofs.Laws.Choice.{is_true, is_false, b_elim, lt_elim}
 use Rattle.days.specs.Days.{last_day}
 use Rattle.occurrences.specs.Next.{Next}
 use Rattle.pages.specs.Next.{found_on, none_from, first_shown, next_of, Told}
-use Rattle.pages.specs.declared.types.NextAnswer.{NextAnswer}
+use Rattle.pages.specs.declared.types.Search.{Search}
 
 module _ (p : ℕ → Bool) (asked : ℕ) where
   -- what is still to be looked at from day d on
-  abbrev pub from : ℕ → NextAnswer
+  abbrev pub from : ℕ → Search
   from d = first_shown p asked (last_day + 1 - d) d
 
   turn : (d : ℕ) → d ≤ last_day → from d ≡ first_shown p asked (suc (last_day - d)) d

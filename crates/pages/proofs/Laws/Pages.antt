@@ -1,9 +1,9 @@
 -- Laws of pages: what an accepted question knows, and the records of a book one by one.
 -- Assumes nothing.
-use Rattle.std.specs.Prelude.{ℕ, suc, ◌+◌, ◌*◌, ◌<◌, ◌≤◌, ◌≡◌, refl, Bool, true, false, List, [], ◌∷◌, map}
+use Rattle.std.specs.Prelude.{Result, Ok, Err, ℕ, suc, ◌+◌, ◌*◌, ◌<◌, ◌≤◌, ◌≡◌, refl, Bool, true, false, List, [], ◌∷◌, map}
 use Rattle.std.proofs.Common.{sym, ◌∙◌, ap, arith, drop-cons}
 use lib.ListN.{length, get_or, drop}
-use Rattle.prelude.proofs.Laws.Choice.{is_lt, is_ge, lt_elim, lt_skip, constructors_differ}
+use Rattle.prelude.proofs.Laws.Choice.{is_lt, is_ge, lt_elim, lt_skip}
 use Rattle.prelude.specs.declared.refusals.Refusal.{Refusal}
 use Rattle.sorting.specs.Keep.{keep}
 use Rattle.sorting.proofs.Laws.Keep.{keep-nil, keep-yes, keep-no}
@@ -12,7 +12,6 @@ use Rattle.days.specs.Days.{last_day}
 use Rattle.days.specs.Facts.{facts_of}
 use Rattle.days.specs.Answers.{facts_answer}
 use Rattle.days.proofs.Laws.Answers.{facts_in_lem, facts_out_lem}
-use Rattle.days.specs.declared.answers.FactsAnswer.{FactsAnswer}
 use Rattle.days.specs.declared.types.CalendarDay.{CalendarDay}
 use Rattle.day_steps.proofs.Laws.Moves.{facts_of-day_number}
 use Rattle.book.specs.Books.{book_of, entry_at, places_of, entries_of, most_records}
@@ -21,13 +20,13 @@ use Rattle.book.specs.Invariants.{AcceptedBook}
 use Rattle.book.proofs.Laws.Books.{book_accepted, Cursor, Ahead, cursor-ahead}
 use Rattle.book.proofs.Laws.Counts.{count_most}
 use Rattle.book.specs.declared.types.Book.{Book}
-use Rattle.book.specs.declared.types.BookAnswer.{BookAnswer}
 use Rattle.book.specs.Settings.{first_record}
 use Rattle.pages.specs.Pages.{Numbered, numbered_from, numbered, start_of, page_of}
 use Rattle.pages.specs.Answers.{validated_day, validated}
 use Rattle.pages.specs.Invariants.{ReadyBook, record_at}
 use Rattle.pages.specs.declared.types.Ready.{Ready}
-use Rattle.pages.specs.declared.types.Validated.{Validated}
+use Rattle.days.specs.declared.types.DayFacts.{DayFacts}
+use Rattle.prelude.proofs.Laws.Results.{err_not_ok, ok_inj}
 
 -- each record takes 14 bytes or more
 pub ready_most : {f : List ℕ} {a : Ready} → ReadyBook f a → a.records ≤ most_records
@@ -35,50 +34,44 @@ ready_most {f} {a} r =
     let m : first_record + 14 * length (places_of f) ≤ length f = count_most f r.long in
     omega (arith, r.size, r.count)
 
-refused_not : {e : Refusal} {a : Ready} → Validated.Refused e ≡ Validated.Ready a → ⊥
-refused_not c = constructors_differ cc
-
-ready_inj : {a b : Ready} → Validated.Ready a ≡ Validated.Ready b → a ≡ b
-ready_inj e = cc
-
-from-accepted : (f : List ℕ) (n : CalendarDay) (b : Book) → AcceptedBook f b → {a : Ready} → validated_day n (BookAnswer.Accepted b) ≡ Validated.Ready a → ReadyBook f a
+from-accepted : (f : List ℕ) (n : CalendarDay) (b : Book) → AcceptedBook f b → {a : Ready} → validated_day n (Ok b) ≡ Ok a → ReadyBook f a
 unfolding validated_day
 from-accepted f n b h {a} e =
-    let p = lt_skip last_day n.0 _ _ refused_not e in
-    let q : ◌≡◌ {A = Ready} (record { records = b.records; facts = facts_of n.0 }) a = ready_inj p.1 in
+    let p = lt_skip last_day n.0 _ _ err_not_ok e in
+    let q : ◌≡◌ {A = Ready} (record { records = b.records; facts = facts_of n.0 }) a = ok_inj p.1 in
     let l : n.0 ≤ last_day = p.0 in
     let fine : ReadyBook f (record { records = b.records; facts = facts_of n.0 }) =
     record { size = h.size; long = h.long; count = h.count; day = rw (facts_of-day_number n.0) l; facts = ap facts_of (sym (facts_of-day_number n.0)) } in
     rw q at fine
 
-from_book : (f : List ℕ) (n : CalendarDay) (b : BookAnswer) → book_of f ≡ b → {a : Ready} → validated_day n b ≡ Validated.Ready a → ReadyBook f a
+from_book : (f : List ℕ) (n : CalendarDay) (b : Result Book Refusal) → book_of f ≡ b → {a : Ready} → validated_day n b ≡ Ok a → ReadyBook f a
 unfolding validated_day
-from_book f n (BookAnswer.Accepted b) q e = from-accepted f n b (book_accepted f q) e
-from_book f n (BookAnswer.Refused r) q e = absurd (refused_not e)
+from_book f n (Ok b) q e = from-accepted f n b (book_accepted f q) e
+from_book f n (Err r) q e = absurd (err_not_ok e)
 
-pub validated_ready : (f : List ℕ) (n : CalendarDay) {a : Ready} → validated f n ≡ Validated.Ready a → ReadyBook f a
+pub validated_ready : (f : List ℕ) (n : CalendarDay) {a : Ready} → validated f n ≡ Ok a → ReadyBook f a
 unfolding validated
 validated_ready f n e = from_book f n (book_of f) refl e
 
-day_facts : (n : CalendarDay) (b : BookAnswer) {a : Ready} → validated_day n b ≡ Validated.Ready a → a.facts ≡ facts_of n.0
+day_facts : (n : CalendarDay) (b : Result Book Refusal) {a : Ready} → validated_day n b ≡ Ok a → a.facts ≡ facts_of n.0
 unfolding validated_day
-day_facts n (BookAnswer.Accepted b) e = ap (λ (z : Ready). z.facts) (sym (ready_inj (lt_skip last_day n.0 _ _ refused_not e).1))
-day_facts n (BookAnswer.Refused r) e = absurd (refused_not e)
+day_facts n (Ok b) e = ap (λ (z : Ready). z.facts) (sym (ok_inj (lt_skip last_day n.0 _ _ err_not_ok e).1))
+day_facts n (Err r) e = absurd (err_not_ok e)
 
 -- and its facts are those of the day that was asked about
-pub validated_day-facts : (f : List ℕ) (n : CalendarDay) {a : Ready} → validated f n ≡ Validated.Ready a → a.facts ≡ facts_of n.0
+pub validated_day-facts : (f : List ℕ) (n : CalendarDay) {a : Ready} → validated f n ≡ Ok a → a.facts ≡ facts_of n.0
 unfolding validated
 validated_day-facts f n e = day_facts n (book_of f) e
 
 -- "then 11" is what the day layer says of the day
-unfoldable pub with_facts : ℕ → FactsAnswer → Validated
-with_facts n (FactsAnswer.Facts d) = Validated.Ready (record { records = n; facts = d })
-with_facts n (FactsAnswer.Refused e) = Validated.Refused e
+unfoldable pub with_facts : ℕ → Result DayFacts Refusal → Result Ready Refusal
+with_facts n (Ok d) = Ok (record { records = n; facts = d })
+with_facts n (Err e) = Err e
 
-pub validated-facts : (n : CalendarDay) (b : Book) → with_facts b.records (facts_answer n) ≡ validated_day n (BookAnswer.Accepted b)
+pub validated-facts : (n : CalendarDay) (b : Book) → with_facts b.records (facts_answer n) ≡ validated_day n (Ok b)
 unfolding validated_day with_facts
 validated-facts n b =
-    lt_elim {X = Unit {0}} (λ _. with_facts b.records (facts_answer n) ≡ validated_day n (BookAnswer.Accepted b)) last_day n.0 tt tt
+    lt_elim {X = Unit {0}} (λ _. with_facts b.records (facts_answer n) ≡ validated_day n (Ok b)) last_day n.0 tt tt
     (λ h. rw (facts_out_lem n h) (sym (is_lt h _ _))) (λ h. rw (facts_in_lem n h) (sym (is_ge h _ _)))
 
 -- the records from the n-th on, with their numbers

@@ -1,7 +1,7 @@
 -- How large a printed page can be: each record takes more bytes of its book than of a page, so that a page never passes 65,535.
 -- Assumes nothing.
 use Rattle.std.specs.Prelude.{ℕ, zero, suc, ◌+◌, ◌*◌, ◌<◌, ◌≤◌, ◌≡◌, Bool, true, false, List, map, length}
-use Rattle.std.proofs.Common.{◌∙◌, arith, length-append, length-take, length-drop}
+use Rattle.std.proofs.Common.{sym, ap, ◌∙◌, add-one, zero-add, arith, length-append, length-take, length-drop}
 use Rattle.std.proofs.lemmas.Bool.{false≢true}
 use Rattle.std.proofs.lemmas.List.{length-map}
 use Rattle.prelude.specs.Bytes.{bit, stretch_bytes}
@@ -30,7 +30,7 @@ use Rattle.pages.specs.Invariants.{ReadyBook, record_at}
 use Rattle.pages.proofs.Laws.Pages.{numbered_at, numbered_first, Turn, numbered_cursor, keep-numbered-yes, keep-numbered-no, keep-numbered_end, length_page}
 use Rattle.pages.specs.declared.types.Ready.{Ready}
 use Rattle.printing.specs.Printed.{head_line, page_lines, printed, page_text}
-use Rattle.printing.proofs.Laws.Printed.{length_head, line_size, line_size_lem, length-lines}
+use Rattle.printing.proofs.Laws.Printed.{length_head, line_size, line_size_lem, length-lines, length-coded}
 
 -- the size of a page by its records in the book's order
 pub page_bytes : (p : Numbered → Bool) (f : List ℕ) (d : DayFacts) → length (page_lines f (map (page_line_of d) (page_of p f))) ≡ total (line_size f d) (keep p (numbered f))
@@ -117,3 +117,53 @@ page_most shows f a r =
     let s = page_bytes p f a.facts in
     let d = length_below 4 (length (page_of p f)) (omega arith) in
     rw (page_size shows f a.facts) (omega arith)
+
+pub ruleset page_sizes = (page_size, page_most, length-coded)
+
+-- So much is counted of the records before n that pass, and what those from n on add.
+pub record Counted (f : List ℕ) (d : DayFacts) (p : Numbered → Bool) (n lines bytes : ℕ) : Type 0 where
+  pub lines_left : length (keep p (numbered f)) ≡ lines + length (keep p (numbered_at f n))
+  pub bytes_left : total (line_size f d) (keep p (numbered f)) ≡ bytes + total (line_size f d) (keep p (numbered_at f n))
+
+module _ (f : List ℕ) (d : DayFacts) (p : Numbered → Bool) where
+  pub counted_start : Counted f d p 0 0 0
+  counted_start =
+      record {
+        lines_left = ap (λ (xs : List Numbered). length (keep p xs)) (numbered_first f) ∙ sym (zero-add _);
+        bytes_left = ap (λ (xs : List Numbered). total (line_size f d) (keep p xs)) (numbered_first f) ∙ sym (zero-add _);
+      }
+
+  -- the next record, where it passes and where it does not
+  module _ {n at lines bytes : ℕ} (t : Turn f n at) (k : Counted f d p n lines bytes) where
+    pub counted-yes :
+        {size : ℕ} → p (record_at f n at) ≡ true → size ≡ 13 + bit (day_missing d (entry_at f at).«record») + length (stretch_bytes f (entry_at f at).text)
+        → Counted f d p (n + 1) (lines + 1) (bytes + size)
+    counted-yes h e =
+        let one = keep-numbered-yes f n at t p h in
+        let l = ap (length {A = Numbered}) one in
+        let b = ap (total (line_size f d)) one ∙ total-cons (line_size f d) (record_at f n at) (keep p (numbered_at f (suc n))) in
+        let z = line_size_lem f d (record_at f n at) in
+        rw (add-one n) (record { lines_left = omega (arith, k.lines_left, l); bytes_left = omega (arith, k.bytes_left, b, z, e) })
+
+    pub counted-no : p (record_at f n at) ≡ false → Counted f d p (n + 1) lines bytes
+    counted-no h =
+        let none = keep-numbered-no f n at t p h in
+        let l = ap (length {A = Numbered}) none in
+        let b = ap (total (line_size f d)) none in
+        rw (add-one n) (record { lines_left = omega (arith, k.lines_left, l); bytes_left = omega (arith, k.bytes_left, b) })
+
+  -- what is counted is never more than a page has
+  pub counted_most : {n lines bytes : ℕ} → first_record ≤ length f → length f ≤ 65535 → Counted f d p n lines bytes → (lines ≤ 65535) × (bytes ≤ 65535)
+  counted_most h s k =
+      let b = book-most f d p h in
+      (omega (arith, k.lines_left, b.0), omega (arith, k.bytes_left, b.0))
+
+  -- all is counted
+  pub counted_end :
+      {n lines bytes : ℕ} → length (places_of f) ≤ n → Counted f d p n lines bytes
+      → (lines ≡ length (page_of p f)) × (bytes ≡ length (page_lines f (map (page_line_of d) (page_of p f))))
+  counted_end {n} h k =
+      let none = keep-numbered_end f n p h in
+      let l = ap (length {A = Numbered}) none in
+      let b = ap (total (line_size f d)) none ∙ total-nil (line_size f d) in
+      (omega (arith, k.lines_left, l, length_page p f), omega (arith, k.bytes_left, b, page_bytes p f d))

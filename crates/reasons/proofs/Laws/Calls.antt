@@ -1,10 +1,10 @@
 -- Document 02, R-8, over the questions: "shown" exactly when the page has the record, what the answer of `why` promises, and that
 -- it agrees with the question of R-7 and with the page's lines.
 -- Assumes nothing.
-use Rattle.std.specs.Prelude.{ℕ, ◌<◌, ◌≤◌, ◌≡◌, refl, Bool, true, false, List, [], ◌∷◌, length, get_or}
+use Rattle.std.specs.Prelude.{Result, Ok, Err, ℕ, ◌<◌, ◌≤◌, ◌≡◌, refl, Bool, true, false, List, [], ◌∷◌, length, get_or}
 use Rattle.std.proofs.Common.{sym, ◌∙◌, ap, subst}
 use Rattle.prelude.specs.Choice.{if_b}
-use Rattle.prelude.proofs.Laws.Choice.{constructors_differ, b_elim, lt_elim}
+use Rattle.prelude.proofs.Laws.Choice.{b_elim, lt_elim}
 use Rattle.prelude.specs.Refusals.{no_such_number, refusal}
 use Rattle.prelude.specs.declared.refusals.Refusal.{Refusal}
 use Rattle.sorting.specs.Keep.{keep}
@@ -26,17 +26,14 @@ use Rattle.pages.proofs.Laws.Moved.{line_falling}
 use Rattle.pages.proofs.Laws.Nth.{nth-record, nth-no-record, nth_through}
 use Rattle.pages.proofs.Laws.PageFacts.{of_number, page_once}
 use Rattle.pages.proofs.Laws.Pages.{validated_ready, validated_day-facts}
-use Rattle.pages.specs.declared.types.FallsAnswer.{FallsAnswer}
 use Rattle.pages.specs.declared.types.Line.{Line}
-use Rattle.pages.specs.declared.types.LineAnswer.{LineAnswer}
 use Rattle.pages.specs.declared.types.Ready.{Ready}
-use Rattle.pages.specs.declared.types.Validated.{Validated}
 use Rattle.reasons.specs.Answers.{why_in, record_why}
 use Rattle.reasons.specs.Holds.{Explained, Promised}
 use Rattle.reasons.proofs.Laws.Holds.{reason-first, each-true}
 use Rattle.reasons.specs.Reasons.{is_to_do, is_too_short, absent_for, or_else, reason_of, says_shown}
 use Rattle.reasons.specs.declared.types.Reason.{Reason}
-use Rattle.reasons.specs.declared.types.ReasonAnswer.{ReasonAnswer}
+use Rattle.prelude.proofs.Laws.Results.{err_not_ok, ok_inj}
 
 -- the answer to R-7's question that a reason implies
 unfoldable pub falling_for : Reason → Falling
@@ -104,39 +101,33 @@ ready_explained f c k {a} r h =
     let l : a.facts.date.day ≤ a.facts.length = rw r.facts (in_length a.facts.day.0 r.day) in
     record { holds = each-true c a.facts l _; first = reason-first c a.facts l _; page = shown_page c a.facts f k h }
 
-reason_inj : {p q : Reason} → ReasonAnswer.Reason p ≡ ReasonAnswer.Reason q → p ≡ q
-reason_inj e = cc
-
-refused_not : {e : Refusal} {q : Reason} → ReasonAnswer.Refused e ≡ ReasonAnswer.Reason q → ⊥
-refused_not e = constructors_differ cc
-
 -- over any facts that are those of the accepted question
 why_explained :
-    (f : List ℕ) (c : ShortMonth) (k : ℕ) (d : DayFacts) (v : Validated) → ((a : Ready) → v ≡ Validated.Ready a → ReadyBook f a × (a.facts ≡ d))
-    → (q : Reason) → why_in f c k v ≡ ReasonAnswer.Reason q → Explained f c d k q
+    (f : List ℕ) (c : ShortMonth) (k : ℕ) (d : DayFacts) (v : Result Ready Refusal) → ((a : Ready) → v ≡ Ok a → ReadyBook f a × (a.facts ≡ d))
+    → (q : Reason) → why_in f c k v ≡ Ok q → Explained f c d k q
 unfolding why_in
-why_explained f c k d (Validated.Ready a) known q e =
+why_explained f c k d (Ok a) known q e =
     let r = known a refl in
     lt_elim {X = Unit {0}} (λ _. Explained f c d k q) k (length (places_of f)) tt tt
-    (λ h. subst (λ z. Explained f c z k q) r.1 (subst (Explained f c a.facts k) (reason_inj (sym (nth-record f _ _ k h) ∙ e)) (ready_explained f c k r.0 h)))
-    (λ h. absurd (refused_not (sym (nth-no-record f _ _ k h) ∙ e)))
-why_explained f c k d (Validated.Refused r) known q e = absurd (refused_not e)
+    (λ h. subst (λ z. Explained f c z k q) r.1 (subst (Explained f c a.facts k) (ok_inj (sym (nth-record f _ _ k h) ∙ e)) (ready_explained f c k r.0 h)))
+    (λ h. absurd (err_not_ok (sym (nth-no-record f _ _ k h) ∙ e)))
+why_explained f c k d (Err r) known q e = absurd (err_not_ok e)
 
 -- what the answer to the question promises
 pub why_promised : (f : List ℕ) (c : ShortMonth) (n : CalendarDay) (k : ℕ) → Promised f c n k (record_why f c n k)
 why_promised f c n k = why_explained f c k (facts_of n.0) (validated f n) (λ a h. (validated_ready f n h, validated_day-facts f n h))
 
 -- the answer of R-7's question that an answer with a reason implies
-unfoldable pub falling_answer : ReasonAnswer → FallsAnswer
-falling_answer (ReasonAnswer.Reason q) = FallsAnswer.Falls (falling_for q)
-falling_answer (ReasonAnswer.Refused e) = FallsAnswer.Refused e
+unfoldable pub falling_answer : Result Reason Refusal → Result Falling Refusal
+falling_answer (Ok q) = Ok (falling_for q)
+falling_answer (Err e) = Err e
 
-why_falls_in : (f : List ℕ) (c : ShortMonth) (k : ℕ) (v : Validated) → falling_answer (why_in f c k v) ≡ falls_in f c k v
+why_falls_in : (f : List ℕ) (c : ShortMonth) (k : ℕ) (v : Result Ready Refusal) → falling_answer (why_in f c k v) ≡ falls_in f c k v
 unfolding why_in falls_in falling_answer
-why_falls_in f c k (Validated.Ready a) =
+why_falls_in f c k (Ok a) =
     nth_through falling_answer (numbered f) k _ _
-    ∙ (λ i. nth (numbered f) k (FallsAnswer.Refused (refusal no_such_number)) (λ x. FallsAnswer.Falls (reason_falling c a.facts x.entry.«record» i)))
-why_falls_in f c k (Validated.Refused e) = refl
+    ∙ (λ i. nth (numbered f) k (Err (refusal no_such_number)) (λ x. Ok (reason_falling c a.facts x.entry.«record» i)))
+why_falls_in f c k (Err e) = refl
 
 -- the two questions agree, refusals and all
 pub why_falling : (f : List ℕ) (c : ShortMonth) (n : CalendarDay) (k : ℕ) → falling_answer (record_why f c n k) ≡ record_falls f c n k
@@ -156,26 +147,20 @@ back_again Reason.WrongDay = refl
 back_again Reason.WrongWeekday = refl
 back_again Reason.WrongWeek = refl
 
-falls_inj : {x y : Falling} → FallsAnswer.Falls x ≡ FallsAnswer.Falls y → x ≡ y
-falls_inj e = cc
-
-not_falls : {r : Refusal} {x : Falling} → FallsAnswer.Refused r ≡ FallsAnswer.Falls x → ⊥
-not_falls e = constructors_differ cc
-
 else_mark : (m : Bool) (q : Reason) → or_else (if_b m Falling.Moved Falling.Own) q ≡ if_b m Reason.Moved Reason.OwnDay
 unfolding or_else if_b
 else_mark true q = refl
 else_mark false q = refl
 
-marked_reason : (w : ReasonAnswer) (m : Bool) → falling_answer w ≡ FallsAnswer.Falls (if_b m Falling.Moved Falling.Own) → w ≡ ReasonAnswer.Reason (if_b m Reason.Moved Reason.OwnDay)
+marked_reason : (w : Result Reason Refusal) (m : Bool) → falling_answer w ≡ Ok (if_b m Falling.Moved Falling.Own) → w ≡ Ok (if_b m Reason.Moved Reason.OwnDay)
 unfolding falling_answer
-marked_reason (ReasonAnswer.Reason q) m e =
-    ap ReasonAnswer.Reason (sym (back_again q) ∙ ap (λ (z : Falling). or_else z q) (falls_inj e) ∙ else_mark m q)
-marked_reason (ReasonAnswer.Refused r) m e = absurd (not_falls e)
+marked_reason (Ok q) m e =
+    ap Ok (sym (back_again q) ∙ ap (λ (z : Falling). or_else z q) (ok_inj e) ∙ else_mark m q)
+marked_reason (Err r) m e = absurd (err_not_ok e)
 
 -- of the record of any line of a page the reason is its own day, or moved just where the line is marked
 pub line_why :
     (f : List ℕ) (c : ShortMonth) (n : CalendarDay) (j : ℕ) {l : Line}
-    → page_line_at (falls_on c) f n j ≡ LineAnswer.Line l → record_why f c n l.number ≡ ReasonAnswer.Reason (if_b l.moved Reason.Moved Reason.OwnDay)
+    → page_line_at (falls_on c) f n j ≡ Ok l → record_why f c n l.number ≡ Ok (if_b l.moved Reason.Moved Reason.OwnDay)
 line_why f c n j {l} e =
     marked_reason (record_why f c n l.number) l.moved (why_falling f c n l.number ∙ line_falling f c n j e)

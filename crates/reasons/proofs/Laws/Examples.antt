@@ -1,11 +1,10 @@
 -- Single days, document 02, R-8, and the readings: a month too short under skip, moved under last, and before start ahead of both.
 -- Assumes nothing.
-use Rattle.std.specs.Prelude.{ℕ, ◌≡◌, refl, false}
+use Rattle.std.specs.Prelude.{None, ℕ, ◌≡◌, refl, false}
 use Rattle.prelude.specs.Choice.{if_lt, if_eq, if_b}
 use Rattle.days.specs.Dates.{before}
 use Rattle.days.specs.declared.types.Date.{Date}
 use Rattle.days.specs.declared.types.DayFacts.{DayFacts}
-use Rattle.records.specs.declared.types.CheckOff.{CheckOff}
 use Rattle.records.specs.declared.types.Repeat.{Repeat}
 use Rattle.records.specs.declared.types.Record.{Record}
 use Rattle.falls.specs.Falls.{dated_falls, in_span, weekly_falls, by_position_falls, on_missing_day, on_day, by_date_falls, yearly_falls, falls}
@@ -89,6 +88,6 @@ another_day = (refl, refl, refl)
 
 -- a to-do of that day
 pub to_do_lem :
-    Gives ShortMonth.Last april30 (Record.ToDo (record { carry_forward = false; priority = 1; start = on 1993 4 30; check_off = CheckOff.NotCheckedOff })) Reason.IsToDo
+    Gives ShortMonth.Last april30 (Record.ToDo (record { carry_forward = false; priority = 1; start = on 1993 4 30; check_off = None })) Reason.IsToDo
 unfolding reason_of or_else absent_for is_to_do falling falls if_b
 to_do_lem = refl

@@ -16,6 +16,7 @@ use Rattle.records.specs.declared.types.ToDo.{ToDo}
 use Rattle.records.specs.declared.types.Record.{Record}
 use Rattle.falls.specs.Moved.{named_day, day_missing, falling}
 use Rattle.falls.proofs.Laws.Falls.{by_type}
+use Rattle.falls.proofs.Laws.Tests.{choices}
 use Rattle.falls.specs.declared.types.Falling.{Falling}
 use Rattle.falls.specs.declared.types.ShortMonth.{ShortMonth}
 use Rattle.reasons.specs.Kinds.{outside_or, weekday_reason, ends_before, too_short, day_reason, month_reason}
@@ -84,6 +85,8 @@ module _ (c : ShortMonth) (f : DayFacts) where
       → absent_for c f (record_of t p) ≡ if_eq t 1 (outside_or f (dated_of p).date (dated_of p).date Reason.WrongWeek) (if_eq t 2 (outside_or f (weekly_of p).repeat.first (weekly_of p).repeat.last (weekday_reason f (weekly_of p).weekday)) (if_eq t 3 (outside_or f (monthly_by_date_of p).repeat.first (monthly_by_date_of p).repeat.last (day_reason c f (monthly_by_date_of p).day)) (if_eq t 4 (outside_or f (monthly_by_position_of p).repeat.first (monthly_by_position_of p).repeat.last (weekday_reason f (monthly_by_position_of p).weekday)) (if_eq t 5 (outside_or f (yearly_of p).repeat.first (yearly_of p).repeat.last (month_reason c f (yearly_of p).month (yearly_of p).day)) Reason.IsToDo))))
   absent-type t p =
       rw (absent-dated (dated_of p), absent-weekly (weekly_of p), absent-by-date (monthly_by_date_of p), absent-by-position (monthly_by_position_of p), absent-yearly (yearly_of p), absent-to-do (to_do_of p)) at (by_type (absent_for c f) t p)
+
+pub ruleset absent_by_type = (absent-type, choices)
 
 -- what falls on the day says its reason, else the tests do
 module _ (c : ShortMonth) (f : DayFacts) (r : Record) where

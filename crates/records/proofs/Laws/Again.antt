@@ -1,6 +1,6 @@
 -- What was read is written again: an accepted body without padding, in whose state byte only named bits are set, is the encoding of what it holds.
 -- Assumes nothing.
-use Rattle.std.specs.Prelude.{ℕ, zero, suc, ◌+◌, ◌-◌, ◌≤◌, ◌≡◌, refl, true, List, [], ◌∷◌, ◌++◌, length, take, drop}
+use Rattle.std.specs.Prelude.{Ok, Option, ℕ, zero, suc, ◌+◌, ◌-◌, ◌≤◌, ◌≡◌, refl, true, List, [], ◌∷◌, ◌++◌, length, take, drop}
 use Rattle.std.proofs.Common.{sym, ◌∙◌, arith, length-drop, take-append-drop, take_all, drop-drop}
 use Rattle.std.proofs.lemmas.Bool.{false≢true}
 use Rattle.prelude.specs.Choice.{if_eq, if_b}
@@ -14,8 +14,8 @@ use Rattle.records.specs.Bodies.{judge_body}
 use Rattle.records.proofs.Laws.Judged.{fixed_range, body_judged, text_long, note_long}
 use Rattle.records.specs.Encoding.{plain_state, date_bytes, check_off_bit, check_off_bytes, tail_bytes, from_start, fixed_bytes, type_of, body_bytes, encode}
 use Rattle.records.proofs.Laws.Bodies.{state_byte, check_bit}
-use Rattle.records.specs.declared.types.CheckOff.{CheckOff}
 use Rattle.records.specs.declared.types.Record.{Record}
+use Rattle.days.specs.declared.types.Date.{Date}
 
 -- One field is written again.
 state_again : (x : ℕ) (q : List ℕ) → x ≤ 1 → bit (bit0 (x ∷ q)) ≡ x
@@ -55,7 +55,7 @@ bits_again (suc (suc zero)) q h = refl
 bits_again (suc (suc (suc zero))) q h = refl
 bits_again (suc (suc (suc (suc x)))) q h = absurd (omega arith)
 
-record Checked (x : ℕ) (q : List ℕ) (c : CheckOff) : Type 0 where
+record Checked (x : ℕ) (q : List ℕ) (c : Option Date) : Type 0 where
   state : bit (bit0 (x ∷ q)) + check_off_bit c ≡ x
   date : check_off_bytes c ≡ byte q 4 ∷ (byte q 5 ∷ (byte q 6 ∷ []))
 
@@ -117,7 +117,7 @@ type_again t p low high =
     P r = type_of r ≡ t
 
 pub body_again :
-    (t : ℕ) (p : List ℕ) → 1 ≤ t → t ≤ 6 → Bytes p → judge_body t p ≡ 0
+    (t : ℕ) (p : List ℕ) → 1 ≤ t → t ≤ 6 → Bytes p → judge_body t p ≡ Ok tt
     → length p ≡ fixed_of t + text_length t p + note_length t p → plain_state t p ≡ true → body_bytes (record_of t p) (body_text t p) (body_note t p) ≡ p
 unfolding body_bytes plain_state
 body_again t p low high b j e s =
@@ -127,7 +127,7 @@ body_again t p low high b j e s =
     rw (text_long t p (omega arith), note_long t p (omega arith), f, rest_again t p e) (take-append-drop (fixed_of t) p)
 
 pub encode_again :
-    (t : ℕ) (p : List ℕ) → 1 ≤ t → t ≤ 6 → Bytes p → judge_body t p ≡ 0
+    (t : ℕ) (p : List ℕ) → 1 ≤ t → t ≤ 6 → Bytes p → judge_body t p ≡ Ok tt
     → length p ≡ fixed_of t + text_length t p + note_length t p → plain_state t p ≡ true → encode (record_of t p) (body_text t p) (body_note t p) ≡ t ∷ (le16 (length p) ++ p)
 unfolding encode
 encode_again t p low high b j e s = rw (type_again t p low high, body_again t p low high b j e s)

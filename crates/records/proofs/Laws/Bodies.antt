@@ -1,6 +1,6 @@
 -- A whole record as encoded: its length, its text and note read back, no refusal, each element a byte.
 -- Assumes nothing.
-use Rattle.std.specs.Prelude.{ℕ, ◌+◌, ◌≤◌, ◌<◌, ◌≡◌, Bool, false, List, ◌∷◌, ◌++◌, drop}
+use Rattle.std.specs.Prelude.{Ok, Option, Some, None, ℕ, ◌+◌, ◌≤◌, ◌<◌, ◌≡◌, Bool, false, List, ◌∷◌, ◌++◌, drop}
 use Rattle.std.proofs.Common.{◌∙◌, arith, length-append, drop-drop}
 use Rattle.std.proofs.Math.Bool.{true}
 use Rattle.std.proofs.lemmas.Bool.{false≢true}
@@ -21,7 +21,6 @@ use Rattle.records.specs.Bodies.{lengths_fit, lengths_ok, fields_ok, texts_ok, j
 use Rattle.records.specs.Encoding.{date_bytes, check_off_bit, check_off_bytes, tail_bytes, from_start, fixed_bytes, type_of, body_bytes, encode}
 use Rattle.records.proofs.Laws.Encoding.{type_range, length_fixed, decode-text_length, decode-note_length, decode_record, clean_typed}
 use Rattle.records.specs.declared.types.Repeat.{Repeat}
-use Rattle.records.specs.declared.types.CheckOff.{CheckOff}
 use Rattle.records.specs.declared.types.Record.{Record}
 
 -- "at most 440 bytes"
@@ -69,7 +68,7 @@ module _ (r : Record) (text note : List ℕ) where
   clean-body e = clean_typed r (length text) (length note) (text ++ note) e
 
   -- No refusal.
-  pub judge-encoded : record_ok r ≡ true → length text ≤ most_text → no_zero text ≡ true → note_ok note ≡ true → judge_body (type_of r) (body_bytes r text note) ≡ 0
+  pub judge-encoded : record_ok r ≡ true → length text ≤ most_text → no_zero text ≡ true → note_ok note ≡ true → judge_body (type_of r) (body_bytes r text note) ≡ Ok tt
   unfolding judge_body lengths_ok lengths_fit texts_ok
   judge-encoded h k z o =
       let m : length note < 65536 = omega (arith, note_short note o) in
@@ -91,20 +90,20 @@ date_bytes_lem d v =
     let p = three_bytes v in
     omega arith
 
-check_bytes : (c : CheckOff) → check_off_ok c ≡ true → Bytes (check_off_bytes c)
+check_bytes : (c : Option Date) → check_off_ok c ≡ true → Bytes (check_off_bytes c)
 unfolding check_off_bytes check_off_ok
-check_bytes CheckOff.NotCheckedOff h = omega arith
-check_bytes (CheckOff.On d) h = date_bytes_lem d (valid_facts h)
+check_bytes None h = omega arith
+check_bytes (Some d) h = date_bytes_lem d (valid_facts h)
 
 pub state_byte : (b : Bool) → bit b < 2
 unfolding bit if_b
 state_byte true = omega arith
 state_byte false = omega arith
 
-pub check_bit : (c : CheckOff) → check_off_bit c < 3
+pub check_bit : (c : Option Date) → check_off_bit c < 3
 unfolding check_off_bit
-check_bit CheckOff.NotCheckedOff = omega arith
-check_bit (CheckOff.On d) = omega arith
+check_bit None = omega arith
+check_bit (Some d) = omega arith
 
 start_bytes : (r : Repeat) (t n : ℕ) → RepeatFacts r → t < 256 → Bytes (from_start r t n)
 unfolding from_start tail_bytes date_bytes be16 le16

@@ -1,6 +1,6 @@
 -- The fixed bytes as encoded are read back: the lengths of text and note, each field, the record.
 -- Assumes nothing.
-use Rattle.std.specs.Prelude.{ℕ, ◌+◌, ◌-◌, ◌≤◌, ◌<◌, ◌≡◌, Bool, length}
+use Rattle.std.specs.Prelude.{Option, Some, None, ℕ, ◌+◌, ◌-◌, ◌≤◌, ◌<◌, ◌≡◌, Bool, length}
 use Rattle.std.proofs.Math.Path.{refl, ap}
 use Rattle.std.proofs.Math.Bool.{true, false}
 use mathlib.Core.List.{List, [], ◌∷◌, ◌++◌}
@@ -17,7 +17,6 @@ use Rattle.records.proofs.Laws.Ranges.{Within, DatedFacts, RepeatFacts, ToDoFact
 use Rattle.records.specs.Encoding.{date_bytes, check_off_bit, check_off_bytes, tail_bytes, from_start, fixed_bytes, type_of}
 use Rattle.records.specs.declared.types.Dated.{Dated}
 use Rattle.records.specs.declared.types.Repeat.{Repeat}
-use Rattle.records.specs.declared.types.CheckOff.{CheckOff}
 use Rattle.records.specs.declared.types.ToDo.{ToDo}
 use Rattle.records.specs.declared.types.Record.{Record}
 
@@ -31,10 +30,10 @@ type_range (Record.Yearly y) = omega arith
 type_range (Record.ToDo d) = omega arith
 
 -- A check-off's three bytes, by place.
-check_places : (c : CheckOff) → check_off_bytes c ≡ byte (check_off_bytes c) 0 ∷ (byte (check_off_bytes c) 1 ∷ (byte (check_off_bytes c) 2 ∷ []))
+check_places : (c : Option Date) → check_off_bytes c ≡ byte (check_off_bytes c) 0 ∷ (byte (check_off_bytes c) 1 ∷ (byte (check_off_bytes c) 2 ∷ []))
 unfolding check_off_bytes date_bytes
-check_places CheckOff.NotCheckedOff = refl
-check_places (CheckOff.On d) = refl
+check_places None = refl
+check_places (Some d) = refl
 
 -- The fixed bytes are as many as the table says.
 pub length_fixed : (r : Record) (t n : ℕ) → length (fixed_bytes r t n) ≡ fixed_of (type_of r)
@@ -105,29 +104,29 @@ repeat_back r f a t n rest =
 
 -- a to-do's two state bits and check-off date
 module _ (a : ℕ) (s : Date) (t n : ℕ) (rest : List ℕ) where
-  abbrev to_do : Bool → CheckOff → List ℕ
+  abbrev to_do : Bool → Option Date → List ℕ
   to_do b c = fixed_bytes (Record.ToDo (record { carry_forward = b; priority = a; start = s; check_off = c })) t n ++ rest
 
-  carry_back : (b : Bool) (c : CheckOff) → bit0 (to_do b c) ≡ b
+  carry_back : (b : Bool) (c : Option Date) → bit0 (to_do b c) ≡ b
   unfolding fixed_bytes bit check_off_bit if_b
-  carry_back true CheckOff.NotCheckedOff = refl
-  carry_back true (CheckOff.On d) = refl
-  carry_back false CheckOff.NotCheckedOff = refl
-  carry_back false (CheckOff.On d) = refl
+  carry_back true None = refl
+  carry_back true (Some d) = refl
+  carry_back false None = refl
+  carry_back false (Some d) = refl
 
-  check-back : (b : Bool) (c : CheckOff) → check_off_ok c ≡ true → check_off_of (to_do b c) ≡ c
+  check-back : (b : Bool) (c : Option Date) → check_off_ok c ≡ true → check_off_of (to_do b c) ≡ c
   unfolding check_off_of check_off_ok fixed_bytes date_bytes bit check_off_bit check_off_bytes if_b
-  check-back true CheckOff.NotCheckedOff h = refl
-  check-back true (CheckOff.On d) h = ap CheckOff.On (date_back d [] (omega (arith, valid_facts h)))
-  check-back false CheckOff.NotCheckedOff h = refl
-  check-back false (CheckOff.On d) h = ap CheckOff.On (date_back d [] (omega (arith, valid_facts h)))
+  check-back true None h = refl
+  check-back true (Some d) h = ap Some (date_back d [] (omega (arith, valid_facts h)))
+  check-back false None h = refl
+  check-back false (Some d) h = ap Some (date_back d [] (omega (arith, valid_facts h)))
 
-  clean_back : (b : Bool) (c : CheckOff) → check_off_clean (to_do b c) ≡ true
+  clean_back : (b : Bool) (c : Option Date) → check_off_clean (to_do b c) ≡ true
   unfolding check_off_clean three_zeros fixed_bytes date_bytes bit check_off_bit check_off_bytes if_b if_eq
-  clean_back true CheckOff.NotCheckedOff = refl
-  clean_back true (CheckOff.On d) = refl
-  clean_back false CheckOff.NotCheckedOff = refl
-  clean_back false (CheckOff.On d) = refl
+  clean_back true None = refl
+  clean_back true (Some d) = refl
+  clean_back false None = refl
+  clean_back false (Some d) = refl
 
 pub clean_encoded : (d : ToDo) (t n : ℕ) (rest : List ℕ) → check_off_clean (fixed_bytes (Record.ToDo d) t n ++ rest) ≡ true
 clean_encoded d t n rest = clean_back d.priority d.start t n rest d.carry_forward d.check_off

@@ -1,9 +1,10 @@
 -- What an accepted body promises: its lengths, its record, its text and note.
 -- Assumes nothing.
-use Rattle.std.specs.Prelude.{ℕ, ◌+◌, ◌<◌, ◌≤◌, ◌≡◌, refl, true, false, List, length, drop}
+use Rattle.std.specs.Prelude.{Ok, ℕ, ◌+◌, ◌<◌, ◌≤◌, ◌≡◌, refl, true, false, List, length, drop}
 use Rattle.std.proofs.Common.{◌∙◌, arith, length-drop, length-take-le}
 use Rattle.std.proofs.lemmas.Bool.{false≢true}
 use Rattle.prelude.proofs.Laws.Choice.{is_lt, is_ge, eq_elim, lt_elim, lt_skip, b_take}
+use Rattle.prelude.proofs.Laws.Results.{err_not_ok}
 use Rattle.texts.specs.Notes.{no_zero, note_ok, most_text}
 use Rattle.records.specs.Fields.{record_of, fixed_of, text_length, note_length, body_text, body_note}
 use Rattle.records.specs.Ranges.{record_ok}
@@ -44,12 +45,12 @@ pub record Judged (t : ℕ) (p : List ℕ) : Type 0 where
   pub text : no_zero (body_text t p) ≡ true
   pub note : note_ok (body_note t p) ≡ true
 
-pub body_judged : (t : ℕ) (p : List ℕ) → judge_body t p ≡ 0 → Judged t p
+pub body_judged : (t : ℕ) (p : List ℕ) → judge_body t p ≡ Ok tt → Judged t p
 unfolding judge_body lengths_ok lengths_fit texts_ok
 body_judged t p h =
-    let a = b_take (lengths_ok t p) _ _ (λ e. omega arith) h in
-    let b = b_take (fields_ok t p) _ _ (λ e. omega arith) a.1 in
-    let c = b_take (texts_ok t p) _ _ (λ e. omega arith) b.1 in
+    let a = b_take (lengths_ok t p) _ _ err_not_ok h in
+    let b = b_take (fields_ok t p) _ _ err_not_ok a.1 in
+    let c = b_take (texts_ok t p) _ _ err_not_ok b.1 in
     let l1 = lt_skip (length p) (fixed_of t) _ _ false≢true a.0 in
     let l2 = lt_skip most_text (text_length t p) _ _ false≢true l1.1 in
     let l3 = lt_skip (length p) (fixed_of t + text_length t p + note_length t p) _ _ false≢true l2.1 in

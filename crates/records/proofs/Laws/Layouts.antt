@@ -1,6 +1,6 @@
 -- The layout of each kind, by example: bytes set by hand from document 000's offsets, what is read in them, and that it is written so.
 -- Assumes nothing.
-use Rattle.std.specs.Prelude.{ℕ, ◌≡◌, refl, true, false, List, [], ◌∷◌, ◌++◌}
+use Rattle.std.specs.Prelude.{Ok, Some, None, ℕ, ◌≡◌, refl, true, false, List, [], ◌∷◌, ◌++◌}
 use Rattle.prelude.specs.Choice.{if_lt, if_eq, if_b}
 use Rattle.prelude.specs.Bytes.{bit, le16, be16}
 use Rattle.days.specs.Dates.{leap, month_length, real, before}
@@ -11,7 +11,6 @@ use Rattle.records.specs.Fields.{dated_of, repeat_of, weekly_of, monthly_by_date
 use Rattle.records.specs.Ranges.{times_ok, between, dated_ok, repeat_ok, weekly_ok, monthly_by_date_ok, monthly_by_position_ok, yearly_ok, check_off_ok, to_do_ok, three_zeros, check_off_clean}
 use Rattle.records.specs.Bodies.{lengths_fit, lengths_ok, fields_ok, texts_ok, judge_body}
 use Rattle.records.specs.Encoding.{date_bytes, check_off_bit, check_off_bytes, tail_bytes, from_start, fixed_bytes, type_of, body_bytes, encode}
-use Rattle.records.specs.declared.types.CheckOff.{CheckOff}
 use Rattle.records.specs.declared.types.Record.{Record}
 
 abbrev date : ℕ → ℕ → ℕ → Date
@@ -23,7 +22,7 @@ minute n = record { 0 = n }
 -- Bytes p of type t with that padding are accepted and hold that record, text and note, and these are written as p.
 abbrev pub Layout : ℕ → List ℕ → List ℕ → Record → List ℕ → List ℕ → Type 0
 Layout t p padding r text note =
-    (judge_body t (p ++ padding) ≡ 0) × (record_of t (p ++ padding) ≡ r) × (body_text t (p ++ padding) ≡ text)
+    (judge_body t (p ++ padding) ≡ Ok tt) × (record_of t (p ++ padding) ≡ r) × (body_text t (p ++ padding) ≡ text)
     × (body_note t (p ++ padding) ≡ note) × (type_of r ≡ t) × (body_bytes r text note ≡ p)
 
 -- Type 1, "Daily Data Record", from its offset 3 on: 31 December 1980, 5:00 to 23:59, "Hi", a note of two lines.
@@ -137,7 +136,7 @@ to_do =
 
 abbrev pub to_do_record : Record
 to_do_record =
-    Record.ToDo (record { carry_forward = true; priority = 9; start = date 1993 3 15; check_off = CheckOff.On (date 1993 4 2) })
+    Record.ToDo (record { carry_forward = true; priority = 9; start = date 1993 3 15; check_off = Some (date 1993 4 2) })
 
 pub to_do_layout : Layout 6 to_do (0x07 ∷ []) to_do_record (0x43 ∷ 0x61 ∷ 0x6C ∷ 0x6C ∷ []) (0x6D ∷ [])
 unfolding judge_body lengths_ok lengths_fit fields_ok texts_ok to_do_ok check_off_ok check_off_clean three_zeros between real month_length leap no_zero note_ok lines_of short_lines record_of to_do_of check_off_of fixed_of type_of body_bytes fixed_bytes check_off_bit check_off_bytes date_bytes bit le16 be16 if_lt if_eq if_b
@@ -146,7 +145,7 @@ to_do_layout = (refl, refl, refl, refl, refl, refl)
 -- the same, neither carried forward nor checked off, without text and note
 pub to_do_left_layout :
     Layout 6 (0x00 ∷ 0x01 ∷ 0x5D ∷ 0x03 ∷ 0x0F ∷ 0x00 ∷ 0x00 ∷ 0x00 ∷ 0x00 ∷ 0x00 ∷ 0x00 ∷ []) []
-    (Record.ToDo (record { carry_forward = false; priority = 1; start = date 1993 3 15; check_off = CheckOff.NotCheckedOff })) [] []
+    (Record.ToDo (record { carry_forward = false; priority = 1; start = date 1993 3 15; check_off = None })) [] []
 unfolding judge_body lengths_ok lengths_fit fields_ok texts_ok to_do_ok check_off_ok check_off_clean three_zeros between real month_length leap no_zero note_ok lines_of short_lines record_of to_do_of check_off_of fixed_of type_of body_bytes fixed_bytes check_off_bit check_off_bytes date_bytes bit le16 be16 if_lt if_eq if_b
 to_do_left_layout = (refl, refl, refl, refl, refl, refl)
 
@@ -167,6 +166,6 @@ unfolding encode body_bytes fixed_bytes type_of date_bytes bit le16 be16 if_b
 case_encoded = refl
 
 -- "other bits are ignored when read"
-pub case_other_bits : (judge_body 1 (case_body 0xFF) ≡ 0) × (record_of 1 (case_body 0xFF) ≡ case_record)
+pub case_other_bits : (judge_body 1 (case_body 0xFF) ≡ Ok tt) × (record_of 1 (case_body 0xFF) ≡ case_record)
 unfolding judge_body lengths_ok lengths_fit fields_ok texts_ok dated_ok times_ok real month_length leap no_zero note_ok lines_of short_lines record_of dated_of fixed_of if_lt if_eq if_b
 case_other_bits = (refl, refl)

@@ -1,9 +1,14 @@
 -- Laws of rising lists: a number is found by its place, and its place by halving or step by step.
 -- Assumes nothing.
-use Rattle.std.specs.Prelude.{ℕ, zero, suc, ◌+◌, ◌<◌, ◌≤◌, ◌≡◌, refl, Bool, true, false, List, [], ◌∷◌, length, get_or}
+use Rattle.std.specs.Prelude.{Result, Ok, Err, MatchResult, ℕ, zero, suc, ◌+◌, ◌<◌, ◌≤◌, ◌≡◌, refl, Bool, true, false, List, [], ◌∷◌, length, get_or, eqb, if◌then◌else◌}
 use Rattle.std.proofs.Common.{sym, ◌∙◌, arith}
+use Rattle.std.specs.List.Sorted.{IsBinarySearchResult}
+use Rattle.std.specs.Ordering.{nat_cmp}
+use Rattle.std.specs.Result.{is_ok}
+use Rattle.std.proofs.lemmas.List.Sorted.{searched}
 use Rattle.prelude.specs.Choice.{if_lt, if_eq}
 use Rattle.prelude.proofs.Laws.Choice.{is_lt, is_ge, is_eq, is_ne, is_true, is_false, bool_cases, eq_elim, lt_elim}
+use Rattle.prelude.proofs.Laws.Tests.{eq_tested}
 use Rattle.rising.specs.Rising.{contains, unless_in, Rising, Below, Split}
 
 pub rising_less : {list : List ℕ} → Rising list → (i j : ℕ) → i < j → j < length list → get_or list i 0 < get_or list j 0
@@ -12,6 +17,11 @@ rising_less {list} r i (suc j) l h =
     lt_elim {X = Unit {0}} (λ _. get_or list i 0 < get_or list (suc j) 0) i j tt tt
     (λ m. omega (arith, rising_less r i j m (omega arith), r.step j h))
     (λ m. let e : i ≡ j = omega arith in rw e (r.step j h))
+
+pub rising_at_most : {list : List ℕ} → Rising list → (i j : ℕ) → i ≤ j → j < length list → get_or list i 0 ≤ get_or list j 0
+rising_at_most {list} r i j l h =
+    lt_elim {X = Unit {0}} (λ _. get_or list i 0 ≤ get_or list j 0) i j tt tt (λ m. omega (arith, rising_less r i j m h))
+    (λ m. let e : i ≡ j = omega arith in rw e (omega arith))
 
 pub rising_nil : Rising []
 rising_nil = record { step = λ i h. absurd (omega arith) }
@@ -116,6 +126,30 @@ pub split_without : {list : List ℕ} {n place : ℕ} → Rising list → Split 
 split_without {list} {n} {place} r s h =
     split-contains list n place r s
     ∙ lt_elim (λ z. z ≡ false) place (length list) _ _ (λ l. is_ne (λ e. omega (arith, h l)) _ _) (λ _. refl)
+
+-- A choice between true and false is the test itself.
+pub eq_test : (a b : ℕ) → if_eq a b true false ≡ eqb a b
+eq_test a b = eq_tested a b true false ∙ by (eqb a b)
+  where
+    by : (t : Bool) → (if t then true else false) ≡ t
+    by true = refl
+    by false = refl
+
+-- What the library's search finds.
+pub search-contains :
+    (list : List ℕ) (n : ℕ) (r : Result ℕ ℕ) → Rising list → IsBinarySearchResult (λ y. nat_cmp y n) list r → is_ok r ≡ contains list n
+search-contains list n r s h = by r (searched list n r h (rising_at_most s))
+  where
+    by :
+        (r : Result ℕ ℕ)
+        → MatchResult r (λ i. (i < length list) × (get_or list i 0 ≡ n)) (λ i. (i ≤ length list) × ((k : ℕ) → k < i → get_or list k 0 < n) × ((k : ℕ) → i ≤ k → k < length list → n < get_or list k 0))
+        → is_ok r ≡ contains list n
+    by (Ok i) f =
+        let b : Below list n i = record { most = omega arith; each = λ k l. rw f.1 at (rising_less s k i l f.0) } in
+        sym (split-contains list n i s (below-here b s (omega arith)) ∙ is_lt f.0 _ _ ∙ is_eq f.1 _ _)
+    by (Err i) f =
+        let b : Below list n i = record { most = f.0; each = f.1 } in
+        sym (split_without s (record { below = b; above = λ k l h. omega (arith, f.2 k l h) }) (λ h. f.2 i (omega arith) h))
 
 -- The test of what does not stand in a list.
 pub unless_nil : (n : ℕ) (test : Bool) → unless_in [] n test ≡ test

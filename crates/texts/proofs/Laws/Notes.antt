@@ -1,7 +1,8 @@
 -- The laws of text and note as they are read byte by byte: how a line ends, and what is left behind it.
 -- Assumes nothing.
-use Rattle.std.specs.Prelude.{ℕ, suc, ◌+◌, ◌-◌, ◌<◌, ◌≤◌, ◌≡◌, refl, true, false, List, [], ◌∷◌, length, take, drop}
-use Rattle.std.proofs.Common.{ap, ◌∙◌, arith, add-one, length-drop, drop_of_length-le, drop-cons, drop-drop}
+use Rattle.std.specs.Prelude.{ℕ, zero, suc, ◌+◌, ◌-◌, ◌<◌, ◌≤◌, ◌≡◌, refl, true, false, List, [], ◌∷◌, length, take, drop}
+use Rattle.std.specs.List.{list_any}
+use Rattle.std.proofs.Common.{not, eqb, eq-eqb, ne_eqb, take_all, sym, ap, ◌∙◌, arith, add-one, length-drop, drop_of_length-le, drop-cons, drop-drop}
 use Rattle.prelude.proofs.Laws.Choice.{is_eq, is_ne, eq_elim}
 use Rattle.prelude.specs.Bytes.{byte, part}
 use Rattle.texts.specs.Notes.{no_zero, in_front, lines_of}
@@ -40,6 +41,26 @@ pub to_zero_le : (xs : List ℕ) → to_zero xs ≤ length xs
 to_zero_le [] = rw to_zero_nil (omega arith)
 to_zero_le (x ∷ xs) =
     zero_or_not x (λ z. rw (to_zero-zero x xs z) (omega arith)) (λ n. rw (to_zero_other x xs n) (let l = to_zero_le xs in omega arith))
+
+-- Among the first n bytes stands the first zero, or it stands behind them.
+pub to_zero_early : (n : ℕ) (xs : List ℕ) → to_zero (take n xs) < n → to_zero xs ≡ to_zero (take n xs)
+to_zero_early zero xs h = absurd (omega arith)
+to_zero_early (suc n) [] h = refl
+to_zero_early (suc n) (x ∷ xs) h =
+    zero_or_not x (λ z. to_zero-zero x xs z ∙ sym (to_zero-zero x (take n xs) z))
+    (λ m.
+    let e = to_zero_other x (take n xs) m in
+    to_zero_other x xs m ∙ ap suc (to_zero_early n xs (omega arith)) ∙ sym e)
+
+pub to_zero_later : (n : ℕ) (xs : List ℕ) → to_zero (take n xs) ≡ n → to_zero xs ≡ n + to_zero (drop n xs)
+to_zero_later zero xs h = omega arith
+to_zero_later (suc n) [] h = absurd (omega (arith, to_zero_nil))
+to_zero_later (suc n) (x ∷ xs) h =
+    zero_or_not x (λ z. absurd (omega (arith, to_zero-zero x (take n xs) z)))
+    (λ m.
+    let e = to_zero_other x (take n xs) m in
+    let l = to_zero_later n xs (omega arith) in
+    to_zero_other x xs m ∙ omega arith)
 
 -- The first line is what stands before the first zero, and the others are the lines of what stands behind it.
 pub first_line : (xs : List ℕ) → 0 < length xs → lines_of xs ≡ take (to_zero xs) xs ∷ lines_of (drop (suc (to_zero xs)) xs)
@@ -87,6 +108,11 @@ pub record Line (s : List ℕ) (start n : ℕ) : Type 0 where
   pub begun : start < length s
   pub all : n ≡ to_zero (drop start s)
 
+-- counted in the slice from there on
+pub line_here : (s : List ℕ) (start : ℕ) {n : ℕ} → start < length s → n ≡ to_zero (take (length s - start) (drop start s)) → Line s start n
+line_here s start h e =
+    record { begun = h; all = e ∙ ap to_zero (take_all (length s - start) (drop start s) (omega (arith, length-drop start s))) }
+
 module _ {s : List ℕ} {start n : ℕ} (e : Line s start n) where
   pub line-fits : start + n ≤ length s
   line-fits = omega (arith, to_zero_le (drop start s), length-drop start s)
@@ -101,6 +127,13 @@ module _ {s : List ℕ} {start n : ℕ} (e : Line s start n) where
 
 pub lines_end : (s : List ℕ) (i : ℕ) → length s ≤ i → lines_of (drop i s) ≡ []
 lines_end s i h = rw (drop_of_length-le s h) lines_nil
+
+-- A text, as the library looks for a zero in it.
+pub no_zero-any : (s : List ℕ) → not (list_any (λ y. eqb y 0) s) ≡ no_zero s
+unfolding no_zero
+no_zero-any [] = refl
+no_zero-any (x ∷ xs) =
+    zero_or_not x (λ z. simp (eq-eqb x 0 z) (sym (is_eq z _ _))) (λ n. simp (ne_eqb x 0 n) (no_zero-any xs ∙ sym (is_ne n _ _)))
 
 -- A text, from place i on.
 pub clean_zero : (s : List ℕ) (i : ℕ) → i < length s → byte s i ≡ 0 → no_zero (drop i s) ≡ false

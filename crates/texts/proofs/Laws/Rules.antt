@@ -2,7 +2,8 @@
 -- Assumes nothing.
 use Rattle.std.specs.Prelude.{ℕ, zero, suc, ◌+◌, ◌-◌, ◌<◌, ◌≤◌, ◌≡◌, refl, true, false, List, [], ◌∷◌, leb, length, get_or, take, drop}
 use Rattle.std.proofs.Common.{sym, ap, ◌∙◌, arith, add-one, leb-true, leb-false, le-leb, length-drop, drop_of_length-le, drop-cons, drop-drop, get_or-drop, length-take-le}
-use Rattle.prelude.proofs.Laws.Choice.{is_lt, is_ge}
+use Rattle.std.proofs.lemmas.Bool.{lt-leb}
+use Rattle.prelude.proofs.Laws.Choice.{is_lt, is_ge, bool_cases}
 use Rattle.prelude.specs.Bytes.{byte}
 use Rattle.texts.specs.Notes.{in_front, lines_of, short_lines, note_ok, most_note, most_line, most_lines}
 use Rattle.texts.specs.Lines.{to_zero}
@@ -119,6 +120,11 @@ count_le (x ∷ (y ∷ ys)) =
     let l = count_le (y ∷ ys) in
     zero_or_not x (λ z. rw (lines_zero x (y ∷ ys) z) (omega arith))
     (λ n. rw (lines_other x (y ∷ ys) n, front_same x (y ∷ ys) (omega arith)) (omega arith))
+
+-- Two comparisons that hold and fail together.
+pub leb_same : {a b c d : ℕ} → (a ≤ b → c ≤ d) → (b < a → d < c) → leb a b ≡ leb c d
+leb_same {a} {b} {c} {d} f g =
+    bool_cases (leb a b) (λ t. t ∙ sym (le-leb c d (f (leb-true a b t)))) (λ t. t ∙ sym (lt-leb c d (g (leb-false a b t))))
 
 -- The rule of a note by these.
 pub note_long : (n : List ℕ) → most_note < length n → note_ok n ≡ false

@@ -1,6 +1,6 @@
 -- An item's bytes in a file: the step over them is a record, and its record, text and note are the item's.
 -- Assumes nothing.
-use Rattle.std.specs.Prelude.{ℕ, ◌+◌, ◌≤◌, ◌<◌, ◌≡◌, drop}
+use Rattle.std.specs.Prelude.{Ok, Some, None, ℕ, ◌+◌, ◌≤◌, ◌<◌, ◌≡◌, drop}
 use Rattle.std.proofs.Math.Path.{sym, ap}
 use Rattle.std.proofs.Common.{◌∙◌, arith, add-zero, length-append, length-drop, drop-drop}
 use mathlib.Core.List.{List, [], ◌++◌, append_assoc}
@@ -20,7 +20,6 @@ use Rattle.records.specs.declared.types.Record.{Record}
 use Rattle.book.specs.Walk.{type_at, body_length_at, body_at, next_place, step_at}
 use Rattle.book.proofs.Laws.Walk.{record-step, end_step}
 use Rattle.book.specs.Books.{entry_at}
-use Rattle.book.specs.declared.types.StepAnswer.{StepAnswer}
 use Rattle.book.specs.declared.types.Entry.{Entry}
 use Rattle.writer.specs.Writing.{end_bytes}
 use Rattle.writer.specs.Runs.{Item, Fine, item_bytes}
@@ -83,7 +82,7 @@ module _ (f : List ℕ) (at : ℕ) (i : Item) (rest : List ℕ) (d : drop at f �
     whole : body_at f at ≡ item_body i
     whole = rw (long, behind) (take-append_seam (item_body i) rest)
 
-    fine : judge_body (type_at f at) (body_at f at) ≡ 0
+    fine : judge_body (type_at f at) (body_at f at) ≡ Ok tt
     fine = rw (starts, whole) (judge-encoded i.kind i.text i.note o.ranged o.short o.clean o.ruled)
 
     next_place_is : next_place f at ≡ at + length (item_bytes i)
@@ -92,13 +91,13 @@ module _ (f : List ℕ) (at : ℕ) (i : Item) (rest : List ℕ) (d : drop at f �
         let m = item_length i in
         omega arith
 
-    pub item-step : step_at f at ≡ StepAnswer.Record (at + length (item_bytes i))
+    pub item-step : step_at f at ≡ Ok (Some (at + length (item_bytes i)))
     item-step =
         let t = type_range i.kind in
         let s = starts in
         let l = long in
         let h = inside in
-        record-step f at (record { low = omega arith; high = omega arith; body = omega arith; fine = fine }) ∙ ap StepAnswer.Record next_place_is
+        record-step f at (record { low = omega arith; high = omega arith; body = omega arith; fine = fine }) ∙ ap (λ (q : ℕ). Ok (Some q)) next_place_is
 
     further : (n : ℕ) → n ≤ length (item_body i) → drop (at + 3 + n) f ≡ drop n (item_body i) ++ rest
     further n h = sym (drop-drop n (at + 3) f) ∙ ap (drop n) behind ∙ drop-append-le n (item_body i) rest h
@@ -130,7 +129,7 @@ module _ (f : List ℕ) (at : ℕ) (d : drop at f ≡ end_bytes) where
       let n = length-drop at f in
       omega arith
 
-  pub step-at-end-record : step_at f at ≡ StepAnswer.End
+  pub step-at-end-record : step_at f at ≡ Ok None
   step-at-end-record =
       let t : byte f at ≡ 50 = ap (byte f) (sym (add-zero at)) ∙ sym (byte-drop f at 0) ∙ ap (λ l. byte l 0) d in
       let l : word f (at + 1) ≡ 0 = sym (word-drop f at 1) ∙ ap (λ l. word l 1) d in

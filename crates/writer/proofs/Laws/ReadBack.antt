@@ -1,6 +1,6 @@
 -- The bytes of a book as they are read: the opening bytes give the settings, and the walk meets the items one by one and then the end record.
 -- Assumes nothing.
-use Rattle.std.specs.Prelude.{ℕ, zero, suc, ◌+◌, ◌≤◌, ◌<◌, ◌≡◌, Bool, true, false, eqb, length, get_or, drop}
+use Rattle.std.specs.Prelude.{Ok, ℕ, zero, suc, ◌+◌, ◌≤◌, ◌<◌, ◌≡◌, Bool, true, false, eqb, length, get_or, drop}
 use Rattle.std.proofs.Math.Path.{refl}
 use Rattle.std.proofs.Common.{◌∙◌, ap, arith, add-zero}
 use Rattle.std.proofs.lemmas.Bool.{false≢true}
@@ -18,7 +18,6 @@ use Rattle.book.proofs.Laws.Fillers.{nothing_after}
 use Rattle.book.specs.Books.{accepted, counted, entry_at}
 use Rattle.book.proofs.Laws.Walk.{At, at_next, walk-record, walk_end}
 use Rattle.book.specs.declared.types.Settings.{Settings}
-use Rattle.book.specs.declared.types.BookAnswer.{BookAnswer}
 use Rattle.writer.specs.Writing.{open_bytes}
 use Rattle.writer.specs.Runs.{Item, record_bytes, Items, rest_bytes, item_bytes}
 use Rattle.writer.proofs.Laws.Runs.{rest_item}
@@ -66,11 +65,11 @@ module _ (s : Settings) (rest : List ℕ) where
 
 -- From a place on: the items are met, and then the end record.
 pub record Walked (f : List ℕ) (n at : ℕ) (is : List Item) : Type 0 where
-  pub count : counted f n (walk_from f n at) ≡ BookAnswer.Accepted (record { settings = settings_of f; records = n + length is })
+  pub count : counted f n (walk_from f n at) ≡ Ok (record { settings = settings_of f; records = n + length is })
   pub entries : (k : ℕ) (x : Item) → k < length is → Entered f (entry_at f (get_or (places_in (walk_from f n at)) k 0)) (get_or is k x)
   pub end : end_in (walk_from f n at) ≡ length f
 
-at_end : (f : List ℕ) (n at : ℕ) → at ≡ length f → counted f n (ended at) ≡ BookAnswer.Accepted (record { settings = settings_of f; records = n + 0 })
+at_end : (f : List ℕ) (n at : ℕ) → at ≡ length f → counted f n (ended at) ≡ Ok (record { settings = settings_of f; records = n + 0 })
 unfolding counted accepted
 at_end f n at h = rw (add-zero n) (ap (accepted (settings_of f) n) (nothing_after f at (omega arith)))
 
@@ -90,7 +89,7 @@ read_walked f (i ∷ is) n at o a d =
     read_walked f is (suc n) (at + length (item_bytes i)) o.1 (at_next a s) (item-next f at i (rest_bytes is) d') in
     let m : suc n + length is ≡ n + suc (length is) = omega arith in
     record {
-      count = rw w (g.count ∙ ap (λ k. BookAnswer.Accepted (record { settings = settings_of f; records = k })) m);
+      count = rw w (g.count ∙ ap (λ k. Ok (record { settings = settings_of f; records = k })) m);
       entries = rw w (on (places_in (walk_from f (suc n) (at + length (item_bytes i)))) (item-entry f at i (rest_bytes is) d' o.0) g.entries);
       end = rw w g.end;
     }

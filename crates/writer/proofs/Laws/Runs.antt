@@ -1,6 +1,6 @@
 -- A whole run: what one that is not refused leaves, and when it is not refused.
 -- Assumes nothing.
-use Rattle.std.specs.Prelude.{ℕ, ◌+◌, ◌≤◌, ◌≡◌, refl, true, List, [], ◌∷◌, ◌++◌, length, take}
+use Rattle.std.specs.Prelude.{Ok, ℕ, ◌+◌, ◌≤◌, ◌≡◌, refl, true, List, [], ◌∷◌, ◌++◌, length, take}
 use Rattle.std.proofs.Common.{sym, ◌∙◌, ap, append_assoc, arith, zero-add, length-append}
 use Rattle.prelude.specs.Splice.{splice}
 use Rattle.prelude.proofs.Laws.Splice.{length-splice, take-splice, splice-splice, splice-then}
@@ -13,22 +13,22 @@ use Rattle.writer.proofs.Laws.Calls.{Room, length_open, call-done-refusal-zero, 
 use Rattle.writer.specs.declared.types.Writer.{Writer}
 
 -- The run by its calls.
-finish_done : (at : ℕ) (b : List ℕ) {w : Writer} {b' : List ℕ} → finish (opened at) b ≡ done w b' → (close_refusal (opened at) (length b) ≡ 0) × (done (closed_at (at + 3)) (splice b at end_bytes) ≡ done w b')
+finish_done : (at : ℕ) (b : List ℕ) {w : Writer} {b' : List ℕ} → finish (opened at) b ≡ done w b' → (close_refusal (opened at) (length b) ≡ Ok tt) × (done (closed_at (at + 3)) (splice b at end_bytes) ≡ done w b')
 unfolding finish close_gives close_leaves
 finish_done at b e = call-done-refusal-zero (close_refusal (opened at) (length b)) (closed_at (at + 3)) (opened at) b at end_bytes (λ v c. done v c) e
 
-finish_goes : (at : ℕ) (b : List ℕ) → close_refusal (opened at) (length b) ≡ 0 → finish (opened at) b ≡ done (closed_at (at + 3)) (splice b at end_bytes)
+finish_goes : (at : ℕ) (b : List ℕ) → close_refusal (opened at) (length b) ≡ Ok tt → finish (opened at) b ≡ done (closed_at (at + 3)) (splice b at end_bytes)
 unfolding finish close_gives close_leaves
 finish_goes at b e = call-zero-goes (close_refusal (opened at) (length b)) (closed_at (at + 3)) (opened at) b at end_bytes (λ v c. done v c) e
 
 add_done :
     (i : Item) (is : List Item) (at : ℕ) (b : List ℕ) {w : Writer} {b' : List ℕ} → adds (i ∷ is) (opened at) b ≡ done w b'
-    → (add_refusal (opened at) (length b) i.kind i.text i.note ≡ 0) × (adds is (opened (at + length (item_bytes i))) (splice b at (item_bytes i)) ≡ done w b')
+    → (add_refusal (opened at) (length b) i.kind i.text i.note ≡ Ok tt) × (adds is (opened (at + length (item_bytes i))) (splice b at (item_bytes i)) ≡ done w b')
 unfolding adds add_gives add_leaves
 add_done i is at b e = call-done-refusal-zero (add_refusal (opened at) (length b) i.kind i.text i.note) (opened (at + length (item_bytes i))) (opened at) b at (item_bytes i) (λ v c. adds is v c) e
 
 add_goes :
-    (i : Item) (is : List Item) (at : ℕ) (b : List ℕ) → add_refusal (opened at) (length b) i.kind i.text i.note ≡ 0
+    (i : Item) (is : List Item) (at : ℕ) (b : List ℕ) → add_refusal (opened at) (length b) i.kind i.text i.note ≡ Ok tt
     → adds (i ∷ is) (opened at) b ≡ adds is (opened (at + length (item_bytes i))) (splice b at (item_bytes i))
 unfolding adds add_gives add_leaves
 add_goes i is at b e = call-zero-goes (add_refusal (opened at) (length b) i.kind i.text i.note) (opened (at + length (item_bytes i))) (opened at) b at (item_bytes i) (λ v c. adds is v c) e
@@ -101,11 +101,11 @@ pub length_book : (s : Settings) (is : List Item) → length (book_bytes s is) �
 length_book s is = ap length (book_parts s is) ∙ length-append (open_bytes s) (rest_bytes is) ∙ rw (length_open s)
 
 module _ (s : Settings) (is : List Item) (b : List ℕ) where
-  open_done : {w : Writer} {b' : List ℕ} → writing s is b ≡ done w b' → (open_refusal s (length b) ≡ 0) × (adds is (opened first_record) (splice b 0 (open_bytes s)) ≡ done w b')
+  open_done : {w : Writer} {b' : List ℕ} → writing s is b ≡ done w b' → (open_refusal s (length b) ≡ Ok tt) × (adds is (opened first_record) (splice b 0 (open_bytes s)) ≡ done w b')
   unfolding writing open_gives open_leaves
   open_done e = call-done-refusal-zero (open_refusal s (length b)) (opened first_record) (opened 0) b 0 (open_bytes s) (λ v c. adds is v c) e
 
-  open-goes : open_refusal s (length b) ≡ 0 → writing s is b ≡ adds is (opened first_record) (splice b 0 (open_bytes s))
+  open-goes : open_refusal s (length b) ≡ Ok tt → writing s is b ≡ adds is (opened first_record) (splice b 0 (open_bytes s))
   unfolding writing open_gives open_leaves
   open-goes e = call-zero-goes (open_refusal s (length b)) (opened first_record) (opened 0) b 0 (open_bytes s) (λ v c. adds is v c) e
 

@@ -1,6 +1,6 @@
 -- Same bytes: a plain book, read and written again, has the same bytes, and each of its records may be added.
 -- Assumes nothing.
-use Rattle.std.specs.Prelude.{ℕ, suc, ◌≤◌, ◌≡◌, refl, true, length, drop}
+use Rattle.std.specs.Prelude.{Ok, ℕ, suc, ◌≤◌, ◌≡◌, refl, true, length, drop}
 use mathlib.Core.List.{List, [], ◌∷◌, ◌++◌, map, append_assoc, Memᴰ}
 use Rattle.std.proofs.Common.{arith}
 use Rattle.prelude.specs.Bytes.{Bytes}
@@ -14,7 +14,6 @@ use Rattle.book.specs.Invariants.{RecordAt}
 use Rattle.book.proofs.Laws.Books.{book_accepted, refused_not_accepted, walk-counted}
 use Rattle.book.proofs.Laws.SameBook.{book_places}
 use Rattle.book.specs.declared.types.Book.{Book}
-use Rattle.book.specs.declared.types.BookAnswer.{BookAnswer}
 use Rattle.writer.specs.Writing.{end_bytes}
 use Rattle.writer.specs.Runs.{record_bytes, book_bytes, Fine, Items}
 use Rattle.writer.specs.Again.{item_at, items_of, PlainAt, Each, Plain}
@@ -22,7 +21,7 @@ use Rattle.writer.proofs.Laws.Pieces.{settings_ok_range, open_again, record-agai
 
 -- From a place on the file is the records ahead, and the end record.
 ahead_again :
-    (f : List ℕ) (n at : ℕ) {b : Book} → Bytes f → At f n at → (w : Walk) → walk_from f n at ≡ w → counted f n w ≡ BookAnswer.Accepted b
+    (f : List ℕ) (n at : ℕ) {b : Book} → Bytes f → At f n at → (w : Walk) → walk_from f n at ≡ w → counted f n w ≡ Ok b
     → Each (PlainAt f) (places_in w) → length f ≤ end_in w → record_bytes (map (item_at f) (places_in w)) ++ end_bytes ≡ drop at f
 unfolding places_in end_in counted record_bytes
 ahead_again f n at bs a (more p w) e c h l =
@@ -46,17 +45,17 @@ each_addable : (f : List ℕ) (places : List ℕ) → ((at : ℕ) → Memᴰ at 
 each_addable f [] h = tt
 each_addable f (at ∷ places) h = (item_addable f at (h at (Memᴰ.head refl)), each_addable f places (λ x i. h x (Memᴰ.tail i)))
 
-pub items_addable : (f : List ℕ) {b : Book} → book_of f ≡ BookAnswer.Accepted b → Items (items_of f)
+pub items_addable : (f : List ℕ) {b : Book} → book_of f ≡ Ok b → Items (items_of f)
 unfolding items_of
 items_addable f h = each_addable f (places_of f) (λ at i. (book_places f h at i).0)
 
-pub settings_range : (f : List ℕ) {b : Book} → book_of f ≡ BookAnswer.Accepted b → settings_in_range b.settings ≡ true
+pub settings_range : (f : List ℕ) {b : Book} → book_of f ≡ Ok b → settings_in_range b.settings ≡ true
 settings_range f h =
     let a = book_accepted f h in
     rw a.settings (settings_ok_range f a.set)
 
 -- A book without padding, unnamed bits and fillers, read and written again, has the same bytes.
-pub same_bytes : (f : List ℕ) {b : Book} → Bytes f → book_of f ≡ BookAnswer.Accepted b → Plain f → book_bytes b.settings (items_of f) ≡ f
+pub same_bytes : (f : List ℕ) {b : Book} → Bytes f → book_of f ≡ Ok b → Plain f → book_bytes b.settings (items_of f) ≡ f
 unfolding book_bytes items_of places_of walk_of fillers_of
 same_bytes f bs h p =
     let a = book_accepted f h in

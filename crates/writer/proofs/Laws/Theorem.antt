@@ -1,6 +1,6 @@
 -- What writing promises: whatever is opened, added and closed without a refusal reads as it was added, and a plain book is written as it was.
 -- Assumes nothing.
-use Rattle.std.specs.Prelude.{ℕ, ◌≤◌, ◌<◌, ◌≡◌, List, length, get_or, take, drop}
+use Rattle.std.specs.Prelude.{Ok, ℕ, ◌≤◌, ◌<◌, ◌≡◌, List, length, get_or, take, drop}
 use Rattle.std.proofs.Math.Path.{refl, ap}
 use Rattle.std.proofs.Common.{◌∙◌, arith}
 use Rattle.std.proofs.Math.Bool.{true}
@@ -17,8 +17,6 @@ use Rattle.book.specs.Invariants.{AcceptedBook}
 use Rattle.book.proofs.Laws.Books.{book_accepted}
 use Rattle.book.specs.declared.types.Book.{Book}
 use Rattle.book.specs.declared.types.Settings.{Settings}
-use Rattle.book.specs.declared.types.BookAnswer.{BookAnswer}
-use Rattle.book.specs.declared.types.RecordAnswer.{RecordAnswer}
 use Rattle.writer.specs.Writing.{open_bytes}
 use Rattle.writer.specs.Runs.{Item, done, writing, book_bytes, rest_bytes, closed_at, Written, Items}
 use Rattle.writer.proofs.Laws.Runs.{length_book, writing-done, writing-goes}
@@ -30,11 +28,11 @@ use Rattle.writer.specs.declared.types.Writer.{Writer}
 
 -- a record of an accepted book, by its entry
 reads :
-    (f : List ℕ) (s : Settings) (n k : ℕ) (i : Item) → book_of f ≡ BookAnswer.Accepted (record { settings = s; records = n }) → k < n
+    (f : List ℕ) (s : Settings) (n k : ℕ) (i : Item) → book_of f ≡ Ok (record { settings = s; records = n }) → k < n
     → Entered f (entry_at f (get_or (places_of f) k 0)) i → Reads f k i
 unfolding record_answer record_from record_text_in record_note_in
 reads f s n k i b h e =
-    let r : record_answer f k ≡ RecordAnswer.Record (entry_at f (get_or (places_of f) k 0)) = ap (record_from f k) b ∙ is_lt h _ _ in
+    let r : record_answer f k ≡ Ok (entry_at f (get_or (places_of f) k 0)) = ap (record_from f k) b ∙ is_lt h _ _ in
     record {
       entry = entry_at f (get_or (places_of f) k 0);
       found = r;
@@ -64,12 +62,12 @@ module _ (s : Settings) (is : List Item) (h : settings_in_range s ≡ true) (o :
       let r : settings_in_range (settings_of (book_bytes s is)) ≡ true = ap settings_in_range settings-read ∙ h in
       (read-identified s (rest_bytes is), is_ge long _ _ ∙ is_true r _ _ ∙ flags-back s (rest_bytes is))
 
-  book-read : book_of (book_bytes s is) ≡ BookAnswer.Accepted (record { settings = s; records = length is })
+  book-read : book_of (book_bytes s is) ≡ Ok (record { settings = s; records = length is })
   unfolding book_of walk_of
   book-read =
       let c = walked-book.count in
       let z = zero-add (length is) in
-      is_ge l _ _ ∙ is_true opening.0 _ _ ∙ is_true opening.1 _ _ ∙ c ∙ (λ j. BookAnswer.Accepted (record { settings = settings-read j; records = z j }))
+      is_ge l _ _ ∙ is_true opening.0 _ _ ∙ is_true opening.1 _ _ ∙ c ∙ (λ j. Ok (record { settings = settings-read j; records = z j }))
 
   -- The bytes of a book are read as its settings and items.
   pub book-reads : ReadsAs (book_bytes s is) s is
@@ -91,7 +89,7 @@ writing-reads s is b w b' e =
 
 -- a book without padding, unnamed bits and fillers, read and written again, has the same bytes, in any buffer of at least its length
 pub writing-same :
-    (f : List ℕ) {k : Book} (b : List ℕ) → Bytes f → book_of f ≡ BookAnswer.Accepted k → Plain f → length f ≤ length b
+    (f : List ℕ) {k : Book} (b : List ℕ) → Bytes f → book_of f ≡ Ok k → Plain f → length f ≤ length b
     → writing k.settings (items_of f) b ≡ done (closed_at (length f)) (splice b 0 f)
 writing-same f {k} b y e p l =
     let q : book_bytes k.settings (items_of f) ≡ f = same_bytes f y e p in

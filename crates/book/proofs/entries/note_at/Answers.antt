@@ -3,10 +3,10 @@ use Rattle.std.proofs.Common.{ap, sym, ◌∙◌}
 use Rattle.book.specs.Books.{record_note_in}
 use Rattle.book.proofs.entries.note_at.Goals as goal
 
-pub returns-in-Record : goal.returns-in-Record
+pub returns-in_default : goal.returns-in_default
 unfolding record_note_in
-returns-in-Record c = c.part.ensures ∙ ap (record_note_in _) (sym (sym c.record_at-a.ensures ∙ c.in-Record.is))
+returns-in_default c = ap (record_note_in _) (sym (sym c.record_at.ensures ∙ c.in_default.is))
 
-pub returns-in-Refused : goal.returns-in-Refused
+pub returns : goal.returns
 unfolding record_note_in
-returns-in-Refused c = ap (record_note_in _) (sym (sym c.record_at-a.ensures ∙ c.in-Refused.is))
+returns c = c.of.ensures ∙ ap (record_note_in _) (sym (sym c.record_at.ensures ∙ c.in-Ok.is))

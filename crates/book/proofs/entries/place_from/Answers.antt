@@ -4,19 +4,19 @@ use Rattle.book.proofs.Laws.Books.{Ahead, cursor-ahead}
 use Rattle.book.proofs.Laws.Entries.{cursor_at}
 use Rattle.book.proofs.entries.place_from.Goals as goal
 
-pub loop-i-init : goal.loop-i-init
-loop-i-init c = (cursor_at c.requires.first_record_in_bounds (omega arith) c.requires.place_value, omega arith)
+pub loop-init : goal.loop-init
+loop-init c = cursor_at c.requires.first_record_in_bounds (omega arith) c.requires.place_value
 
-pub next_place-at-requires : goal.next_place-at-requires
-next_place-at-requires c = (cursor-ahead _ _ _ c.loop-i.invariant.0 (omega arith)).entry
+pub invariant_of-next_place : goal.invariant_of-next_place
+invariant_of-next_place c = record { there = (cursor-ahead _ _ _ c.loop.invariant (omega arith)).entry }
 
-pub loop-i-preserved : goal.loop-i-preserved
-loop-i-preserved c =
-    let a : Ahead c.args.file.now c.loop-i.i c.loop-i.at = cursor-ahead _ _ _ c.loop-i.invariant.0 (omega arith) in
-    (rw (add-one c.loop-i.i, c.next_place-at.ensures) a.next, omega arith)
+pub loop-preserved : goal.loop-preserved
+loop-preserved c =
+    let a : Ahead c.args.file.now c.loop.counter c.loop.at = cursor-ahead _ _ _ c.loop.invariant (omega arith) in
+    rw (add-one c.loop.counter, c.next_place-at.ensures) a.next
 
 pub returns : goal.returns
 returns c =
-    let a : Ahead c.args.file.now c.loop-i.i c.loop-i.at = cursor-ahead _ _ _ c.loop-i.invariant.0 (omega arith) in
-    let e : c.loop-i.i ≡ c.args.k = omega arith in
-    (sym (rw e at a.place), c.loop-i.invariant.0.here.high)
+    let a : Ahead c.args.file.now c.loop.counter c.loop.at = cursor-ahead _ _ _ c.loop.invariant (omega arith) in
+    let e : c.loop.counter ≡ c.args.k = omega arith in
+    (sym (rw e at a.place), c.loop.invariant.here.high)

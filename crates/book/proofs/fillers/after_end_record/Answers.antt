@@ -1,5 +1,5 @@
 -- `after_end_record` meets its contract: nothing there, more than 127 bytes, or what is said of each.
-use Rattle.std.proofs.Common.{arith, refl, sym}
+use Rattle.std.proofs.Common.{arith, sym}
 use Rattle.prelude.proofs.Laws.Choice.{lt_yes, lt_no}
 use Rattle.book.specs.Fillers.{after_end_record}
 use Rattle.book.proofs.Laws.Fillers.{nothing_after}
@@ -10,7 +10,7 @@ returns-then-file-e c = sym (nothing_after _ _ (omega arith))
 
 pub returns-then-file-e-gt-MOST_FILLERS : goal.returns-then-file-e-gt-MOST_FILLERS
 unfolding after_end_record
-returns-then-file-e-gt-MOST_FILLERS c = lt_yes _ _ _ (omega arith) refl
+returns-then-file-e-gt-MOST_FILLERS c = lt_yes _ _ _ (omega arith) (cc)
 
 pub returns : goal.returns
 unfolding after_end_record

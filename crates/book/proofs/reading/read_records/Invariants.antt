@@ -6,7 +6,7 @@ use Rattle.book.proofs.Laws.Walk.{At}
 use Rattle.book.proofs.reading.read_records.Given as goal
 
 abbrev pub invariant-loop-next : goal.invariant-loop-next
-invariant-loop-next l = At l.file l.n l.at × (counted l.file 0 (walk_of l.file) ≡ counted l.file l.n (walk_from l.file l.n l.at))
+invariant-loop-next l = At l.file l.records l.at × (counted l.file 0 (walk_of l.file) ≡ counted l.file l.records (walk_from l.file l.records l.at))
 
 abbrev pub decreases-loop-next : goal.decreases-loop-next
 decreases-loop-next l = length l.file - l.at

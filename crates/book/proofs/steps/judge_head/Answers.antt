@@ -1,29 +1,30 @@
 -- `judge_head` meets its contract: each return is the choice that its tests make.
-use Rattle.std.proofs.Common.{arith, refl}
-use Rattle.prelude.proofs.Laws.Choice.{lt_yes, lt_no, eq_yes, eq_no}
+use Rattle.std.proofs.Common.{arith}
+use Rattle.std.proofs.lemmas.Grind.{common_steps}
+use Rattle.prelude.specs.Choice.{if_lt, if_eq}
 use Rattle.book.specs.Walk.{judge_head}
 use Rattle.book.proofs.steps.judge_head.Goals as goal
 
-pub returns-then-l-eq0 : goal.returns-then-l-eq0
-unfolding judge_head
-returns-then-l-eq0 c = lt_no _ _ _ (omega arith) (eq_yes _ _ _ (omega arith) (eq_yes _ _ _ (omega arith) refl))
+pub returns-in-50 : goal.returns-in-50
+unfolding judge_head if_lt if_eq
+returns-in-50 c = grind (arith, common_steps)
 
-pub returns-then-t-eq50 : goal.returns-then-t-eq50
-unfolding judge_head
-returns-then-t-eq50 c = lt_no _ _ _ (omega arith) (eq_yes _ _ _ (omega arith) (eq_no _ _ _ (omega arith) refl))
+pub returns-in-1-to-6 : goal.returns-in-1-to-6
+unfolding judge_head if_lt if_eq
+returns-in-1-to-6 c = grind (arith, common_steps)
 
-pub returns-then-t-lt1 : goal.returns-then-t-lt1
-unfolding judge_head
-returns-then-t-lt1 c = lt_no _ _ _ (omega arith) (eq_no _ _ _ (omega arith) (lt_yes _ _ _ (omega arith) refl))
+pub returns-in-1-to-6-2 : goal.returns-in-1-to-6-2
+unfolding judge_head if_lt if_eq
+returns-in-1-to-6-2 c = grind (arith, common_steps)
 
-pub returns-then-t-gt6 : goal.returns-then-t-gt6
-unfolding judge_head
-returns-then-t-gt6 c = lt_no _ _ _ (omega arith) (eq_no _ _ _ (omega arith) (lt_no _ _ _ (omega arith) (lt_yes _ _ _ (omega arith) refl)))
+pub returns-in_default : goal.returns-in_default
+unfolding judge_head if_lt if_eq
+returns-in_default c = grind (arith, common_steps)
 
-pub returns-then-size-at : goal.returns-then-size-at
-unfolding judge_head
-returns-then-size-at c = lt_no _ _ _ (omega arith) (eq_no _ _ _ (omega arith) (lt_no _ _ _ (omega arith) (lt_no _ _ _ (omega arith) (lt_yes _ _ _ (omega arith) refl))))
+pub returns-in_default-2 : goal.returns-in_default-2
+unfolding judge_head if_lt if_eq
+returns-in_default-2 c = grind (arith, common_steps)
 
-pub returns : goal.returns
-unfolding judge_head
-returns c = lt_no _ _ _ (omega arith) (eq_no _ _ _ (omega arith) (lt_no _ _ _ (omega arith) (lt_no _ _ _ (omega arith) (lt_no _ _ _ (omega arith) refl))))
+pub returns-in_default-3 : goal.returns-in_default-3
+unfolding judge_head if_lt if_eq
+returns-in_default-3 c = grind (arith, common_steps)

@@ -5,4 +5,4 @@ use Rattle.marshal.proofs.Laws.ChainAnswers.{promised_out}
 use Rattle.cabi.proofs.chains_calls.apptbook_check_chains.Goals as goal
 
 pub returns : goal.returns
-returns c = let whole = promised_out _ _ _ _ _ (c.count_out.ensures ∙ ap count_out c.check_chains.ensures.answer) in record { gives = whole.0; shown = whole.1 }
+returns c = let whole = promised_out _ _ _ _ _ (c.from.ensures ∙ ap count_out c.check_chains.ensures.answer) in record { gives = whole.0; shown = whole.1 }

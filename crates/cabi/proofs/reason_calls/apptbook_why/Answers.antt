@@ -10,4 +10,4 @@ use Rattle.cabi.proofs.reason_calls.apptbook_why.Goals as goal
 pub returns : goal.returns
 returns c =
     let choice = ap (λ (z : ShortMonth). record_why c.args.file.now z (day_of c.args.day) c.args.«record») c.choice_of-c.ensures in
-    let whole = explained_out _ _ _ _ (c.reason_out.ensures ∙ ap reason_out (c.why.ensures.gives ∙ choice)) in record { gives = whole.0; shown = whole.1 }
+    let whole = explained_out _ _ _ _ (c.from.ensures ∙ ap reason_out (c.why.ensures.gives ∙ choice)) in record { gives = whole.0; shown = whole.1 }

@@ -5,7 +5,7 @@ use Rattle.calendar.proofs.Laws.Appointments.{ListCursor}
 use Rattle.calendar.proofs.appointments.count_list.Given as goal
 
 abbrev pub invariant-loop-at : goal.invariant-loop-at
-invariant-loop-at l = ListCursor l.file l.end (places_in_list (list_walk_from l.file l.end 0 l.from)) l.n l.at × (l.n ≤ l.at)
+invariant-loop-at l = ListCursor l.file l.span.end (places_in_list (list_walk_from l.file l.span.end 0 l.span.from)) l.n l.at × (l.n ≤ l.at)
 
 abbrev pub decreases-loop-at : goal.decreases-loop-at
-decreases-loop-at l = l.end - l.at
+decreases-loop-at l = l.span.end - l.at

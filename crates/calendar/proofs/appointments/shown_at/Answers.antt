@@ -4,4 +4,4 @@ use Rattle.calendar.proofs.appointments.shown_at.Goals as goal
 
 pub returns : goal.returns
 unfolding shown_at
-returns c = rw (c.word_in-minute.ensures, c.wide-flags.ensures.0, c.size_at-size.ensures.0)
+returns c = rw (c.word_in-minute.ensures, c.from-flags.ensures, c.size_at-size.ensures.0)

@@ -1,16 +1,30 @@
--- `appointment_at` meets its contract: the file's own answer decides.
-use Rattle.std.proofs.Common.{ap, sym, ◌∙◌}
-use Rattle.calendar.specs.Shown.{appointment_from, appointment_answer}
+-- `appointment_at` meets its contract: the file's own refusal, then 11, or the day's list is walked, if it has one.
+use Rattle.std.proofs.Common.{List, ap, arith, length, refl, sym, ℕ, ◌∙◌}
+use Rattle.prelude.proofs.Laws.Choice.{lt_yes, lt_no}
+use Rattle.prelude.proofs.Laws.Results.{err_passed}
+use Rattle.calendar.specs.Shown.{appointment_among, appointment_from, appointment_answer}
 use Rattle.calendar.proofs.Laws.Reader.{calendar_facts}
 use Rattle.calendar.proofs.shown.appointment_at.Goals as goal
 
-pub appointment_on-requires : goal.appointment_on-requires
-appointment_on-requires c = calendar_facts _ (sym c.read_calendar-a.ensures ∙ c.in-Count.is)
-
-pub returns-in-Count : goal.returns-in-Count
+pub returns-in_err-n : goal.returns-in_err-n
 unfolding appointment_answer appointment_from
-returns-in-Count c = c.appointment_on.ensures ∙ ap (appointment_from _ _ _) (sym (sym c.read_calendar-a.ensures ∙ c.in-Count.is))
+returns-in_err-n c = err_passed c.from_residual.ensures.1 ∙ sym (ap (appointment_from _ _ _) (sym c.read_calendar.ensures ∙ c.in_err-n.was))
 
-pub returns-in-Refused : goal.returns-in-Refused
+pub returns-then-day-gt-LAST_DAY : goal.returns-then-day-gt-LAST_DAY
 unfolding appointment_answer appointment_from
-returns-in-Refused c = ap (appointment_from _ _ _) (sym (sym c.read_calendar-a.ensures ∙ c.in-Refused.is))
+returns-then-day-gt-LAST_DAY c = lt_yes _ _ _ (omega arith) refl ∙ sym (ap (appointment_from _ _ _) (sym c.read_calendar.ensures ∙ c.in_ok-n.was))
+
+pub span_on-requires : goal.span_on-requires
+span_on-requires c = calendar_facts _ (sym c.read_calendar.ensures ∙ c.in_ok-n.was)
+
+pub returns-in-Some : goal.returns-in-Some
+unfolding appointment_answer appointment_from
+returns-in-Some c =
+    lt_no _ _ _ (omega arith) (c.appointment_in.ensures ∙ ap (appointment_among _ _) (sym c.in-Some.ensures.places))
+    ∙ sym (ap (appointment_from _ _ _) (sym c.read_calendar.ensures ∙ c.in_ok-n.was))
+
+pub returns-in-None : goal.returns-in-None
+unfolding appointment_answer appointment_from appointment_among
+returns-in-None c =
+    lt_no _ _ _ (omega arith) (lt_no _ _ _ (omega (arith, ap (λ (l : List ℕ). length l) c.in-None.ensures)) refl)
+    ∙ sym (ap (appointment_from _ _ _) (sym c.read_calendar.ensures ∙ c.in_ok-n.was))

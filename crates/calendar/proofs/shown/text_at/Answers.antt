@@ -3,10 +3,10 @@ use Rattle.std.proofs.Common.{ap, sym, ◌∙◌}
 use Rattle.calendar.specs.Shown.{appointment_text_in}
 use Rattle.calendar.proofs.shown.text_at.Goals as goal
 
-pub returns-in-Appointment : goal.returns-in-Appointment
+pub returns-in_default : goal.returns-in_default
 unfolding appointment_text_in
-returns-in-Appointment c = c.part.ensures ∙ ap (appointment_text_in _) (sym (sym c.appointment_at-a.ensures ∙ c.in-Appointment.is))
+returns-in_default c = ap (appointment_text_in _) (sym c.in_default.is ∙ c.appointment_at.ensures)
 
-pub returns-in-Refused : goal.returns-in-Refused
+pub returns : goal.returns
 unfolding appointment_text_in
-returns-in-Refused c = ap (appointment_text_in _) (sym (sym c.appointment_at-a.ensures ∙ c.in-Refused.is))
+returns c = c.of.ensures ∙ ap (appointment_text_in _) (sym c.in-Ok.is ∙ c.appointment_at.ensures)

@@ -5,4 +5,4 @@ use Rattle.calendar_writer.proofs.bytes.block_head.Goals as goal
 
 pub returns : goal.returns
 unfolding block_head le16
-returns c = cc
+returns c = rw (c.to_le_bytes.ensures, c.to_le_bytes-2.ensures)

@@ -5,4 +5,4 @@ use Rattle.calendar_writer.proofs.bytes.descriptor_of.Goals as goal
 
 pub returns : goal.returns
 unfolding descriptor_of le16
-returns c = cc
+returns c = rw (c.to_le_bytes.ensures, c.to_le_bytes-2.ensures, c.to_le_bytes-3.ensures)

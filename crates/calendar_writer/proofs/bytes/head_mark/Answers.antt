@@ -5,4 +5,4 @@ use Rattle.calendar_writer.proofs.bytes.head_mark.Goals as goal
 
 pub returns : goal.returns
 unfolding head_mark le16
-returns c = cc
+returns c = rw c.to_le_bytes.ensures

@@ -5,4 +5,4 @@ use Rattle.calendar_writer.proofs.bytes.settings_words.Goals as goal
 
 pub returns : goal.returns
 unfolding settings_words le16
-returns c = cc
+returns c = rw (c.to_le_bytes.ensures, c.to_le_bytes-2.ensures, c.to_le_bytes-3.ensures, c.to_le_bytes-4.ensures, c.to_le_bytes-5.ensures, c.to_le_bytes-6.ensures)

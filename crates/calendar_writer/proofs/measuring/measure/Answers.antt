@@ -1,33 +1,27 @@
 -- `measure` meets its contract: what is counted so far and what is left of the sums make up the whole.
-use Rattle.std.proofs.Common.{arith, sym, ℕ, ◌*◌, ◌+◌, ◌<◌, ◌∙◌, ◌≤◌}
-use Rattle.calendar_writer.specs.Sums.{count_in}
-use Rattle.calendar_writer.specs.DayLists.{most_days}
+use Rattle.std.proofs.Common.{arith, sym, ◌∙◌}
 use Rattle.calendar_writer.proofs.Laws.Turns.{sum-end, sum_none, sum_some}
 use Rattle.calendar_writer.proofs.measuring.measure.Goals as goal
+use Rattle.calendar_writer.proofs.measuring.measure.Goals.{then-sum-ne0, else-sum-ne0}
 
-count_fits : (a k s : ℕ) → a ≤ 4294967296 * k → k < most_days → s < 18446744073709551616 → a + count_in s < 18446744073709551616
-count_fits a k s h l m = omega arith
-
-pub loop-k-preserved-then-sum-ne0 : goal.loop-k-preserved-then-sum-ne0
-loop-k-preserved-then-sum-ne0 c = (
-  rw (c.units_for-units.ensures, c.count_in-appointments.ensures)
-      (c.loop-k.invariant.0 ∙ sum_some c.args.sums.now c.loop-k.k c.loop-k.n c.loop-k.units c.loop-k.last c.loop-k.appointments (omega arith) c.if-sum-ne0.true),
-  omega arith,
-  omega arith,
-  omega (arith, c.units_for-units.ensures),
-  omega arith,
-  omega (arith, c.count_in-appointments.ensures, c.shared_slice_known-in-loop-k-1.given c.loop-k.k),
-)
-
-pub loop-k-preserved : goal.loop-k-preserved
-loop-k-preserved c = (
-  c.loop-k.invariant.0 ∙ sum_none c.args.sums.now c.loop-k.k c.loop-k.n c.loop-k.units c.loop-k.last c.loop-k.appointments (omega arith) (omega arith),
-  omega arith,
-  omega arith,
-  omega arith,
-  omega arith,
-  omega arith,
-)
+pub loop-sum-preserved : goal.loop-sum-preserved
+loop-sum-preserved c =
+    elim c.if-sum-ne0.branch [
+      | then-sum-ne0 w ↦ rw (w.n-is, w.units-is, w.last-is, w.appointments-is, w.units_for-units.ensures, w.count_in-appointments.ensures) (
+        c.loop-sum.invariant.0 ∙ sum_some c.args.sums.now c.loop-sum.sum-index _ _ _ _ (omega arith) w.if-sum-ne0.true,
+        omega arith,
+        omega arith,
+        omega arith,
+        omega (arith, c.type_inv.sums c.loop-sum.sum-index),
+      )
+      | else-sum-ne0 w ↦ rw (w.n-is, w.units-is, w.last-is, w.appointments-is) (
+        c.loop-sum.invariant.0 ∙ sum_none c.args.sums.now c.loop-sum.sum-index _ _ _ _ (omega arith) (omega arith),
+        omega arith,
+        omega arith,
+        omega arith,
+        omega arith,
+      )
+    ]
 
 pub returns : goal.returns
-returns c = c.measure_of.ensures ∙ sym (c.loop-k.invariant.0 ∙ sum-end c.args.sums.now c.loop-k.k c.loop-k.n c.loop-k.units c.loop-k.last c.loop-k.appointments (omega arith))
+returns c = c.measure_of.ensures ∙ sym (c.loop-sum.invariant.0 ∙ sum-end c.args.sums.now c.loop-sum.sum-index _ _ _ _ (omega arith))

@@ -1,13 +1,11 @@
 -- `weight_of` meets its contract: the mark decides.
-use Rattle.std.proofs.Common.{arith, ℕ}
+use Rattle.std.proofs.Common.{arith, ◌∙◌, ◌≡◌}
 use Rattle.prelude.specs.Bytes.{bit}
-use Rattle.prelude.proofs.Laws.Choice.{is_true, is_false}
+use Rattle.prelude.proofs.Laws.Choice.{b_elim}
 use Rattle.calendar_writer.proofs.sums.weight_of.Goals as goal
-
-pub returns-then-alarm : goal.returns-then-alarm
-unfolding bit
-returns-then-alarm c = omega (arith, is_true c.if-alarm.true {X = ℕ} 1 0)
 
 pub returns : goal.returns
 unfolding bit
-returns c = omega (arith, is_false c.if-alarm.false {X = ℕ} 1 0)
+returns c =
+    let mark : c.from.result ≡ bit c.args.alarm = b_elim (λ m. c.from.result ≡ m) c.args.alarm 1 0 (λ h. c.from.ensures ∙ rw h) (λ h. c.from.ensures ∙ rw h) in
+    omega arith

@@ -1,25 +1,25 @@
--- `rank_of` meets its contract: each return is the choice that its tests make.
-use Rattle.std.proofs.Common.{arith, refl}
+-- Each arm is a choice of `rank`.
+use Rattle.std.proofs.Common.{arith, refl, sym}
 use Rattle.prelude.proofs.Laws.Choice.{lt_yes, lt_no, eq_yes, eq_no}
 use Rattle.chains.specs.Ranks.{rank}
 use Rattle.chains.proofs.order.rank_of.Goals as goal
 
-pub returns-then-minute-gt-LAST_MINUTE : goal.returns-then-minute-gt-LAST_MINUTE
+pub returns-in-0 : goal.returns-in-0
 unfolding rank
-returns-then-minute-gt-LAST_MINUTE c = eq_yes _ _ _ (omega arith) (lt_yes _ _ _ (omega arith) refl)
+returns-in-0 c = (eq_no _ _ _ (λ e. omega arith) (eq_yes _ _ _ (omega arith) refl), omega arith)
 
-pub returns-then-kind-eq1 : goal.returns-then-kind-eq1
+pub returns-in-1 : goal.returns-in-1
 unfolding rank
-returns-then-kind-eq1 c = eq_yes _ _ _ (omega arith) (lt_no _ _ _ (omega arith) refl)
+returns-in-1 c = (eq_yes _ _ _ (omega arith) (lt_no _ _ _ (omega arith) refl), omega arith)
 
-pub returns-then-kind-eq0 : goal.returns-then-kind-eq0
+pub returns-in-2 : goal.returns-in-2
 unfolding rank
-returns-then-kind-eq0 c = eq_no _ _ _ (λ e. omega arith) (eq_yes _ _ _ (omega arith) refl)
+returns-in-2 c = (eq_no _ _ _ (λ e. omega arith) (eq_no _ _ _ (λ e. omega arith) (eq_yes _ _ _ (omega arith) refl)), omega arith)
 
-pub returns-then-kind-eq2 : goal.returns-then-kind-eq2
+pub returns-in_default : goal.returns-in_default
 unfolding rank
-returns-then-kind-eq2 c = eq_no _ _ _ (λ e. omega arith) (eq_no _ _ _ (λ e. omega arith) (eq_yes _ _ _ (omega arith) refl))
+returns-in_default c = sym (eq_yes _ _ _ (omega arith) (lt_yes _ _ _ (omega arith) refl))
 
-pub returns : goal.returns
+pub returns-in_default-2 : goal.returns-in_default-2
 unfolding rank
-returns c = eq_no _ _ _ (λ e. omega arith) (eq_no _ _ _ (λ e. omega arith) (eq_no _ _ _ (λ e. omega arith) refl))
+returns-in_default-2 c = sym (eq_no _ _ _ (λ e. omega arith) (eq_no _ _ _ (λ e. omega arith) (eq_no _ _ _ (λ e. omega arith) refl)))

@@ -3,14 +3,14 @@ use Rattle.commands.specs.Commands.{command_of}
 use Rattle.prelude.proofs.Laws.Choice.{picks}
 use Rattle.commands.proofs.parsing.command_of.Goals as goal
 
-pub returns-then-n-eq2 : goal.returns-then-n-eq2
+pub returns-in-2 : goal.returns-in-2
 unfolding command_of
-returns-then-n-eq2 c = search picks depth 25 fits 3000
+returns-in-2 c = search picks depth 25 fits 3000
 
-pub returns-then-n-eq3 : goal.returns-then-n-eq3
+pub returns-in-3 : goal.returns-in-3
 unfolding command_of
-returns-then-n-eq3 c = search picks depth 25 fits 3000
+returns-in-3 c = search picks depth 25 fits 3000
 
-pub returns : goal.returns
+pub returns-in_default : goal.returns-in_default
 unfolding command_of
-returns c = search picks depth 25 fits 3000
+returns-in_default c = search picks depth 25 fits 3000

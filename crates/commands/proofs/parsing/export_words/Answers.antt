@@ -1,6 +1,7 @@
--- `export_words` meets its contract: each arm by its own equation.
-use Rattle.commands.specs.Commands.{with_number, with_choice, export_words}
-use Rattle.commands.proofs.NoNumber.{no_number}
+-- `export_words` meets its contract: two numbers and a choice, or anything else.
+use Rattle.std.proofs.Common.{sym, ◌∙◌}
+use Rattle.commands.specs.Commands.{with_number, export_words}
+use Rattle.commands.proofs.NoNumber.{no_number, no_choice, a_choice}
 use Rattle.commands.proofs.parsing.export_words.Goals as goal
 
 pub returns-in_default : goal.returns-in_default
@@ -8,21 +9,13 @@ unfolding export_words
 returns-in_default c = no_number _ _ c.in_default.not-Number
 
 pub returns-in_default-b : goal.returns-in_default-b
-unfolding export_words with_number with_choice
+unfolding export_words with_number
 returns-in_default-b c = rw c.in-Number.is (no_number c.args.b _ c.in_default-b.not-Number)
 
-pub returns-in-Number-c : goal.returns-in-Number-c
-unfolding export_words with_number with_choice
-returns-in-Number-c c = rw (c.in-Number.is, c.in-Number-b.is, c.in-Number-c.is)
+pub returns-in_default-choice : goal.returns-in_default-choice
+unfolding export_words with_number
+returns-in_default-choice c = rw (c.in-Number.is, c.in-Number-b.is) (no_choice _ _ (sym c.choice.ensures ∙ c.in_default-choice.is))
 
-pub returns-in-Skip : goal.returns-in-Skip
-unfolding export_words with_number with_choice
-returns-in-Skip c = rw (c.in-Number.is, c.in-Number-b.is, c.in-Skip.is)
-
-pub returns-in-Last : goal.returns-in-Last
-unfolding export_words with_number with_choice
-returns-in-Last c = rw (c.in-Number.is, c.in-Number-b.is, c.in-Last.is)
-
-pub returns-in-Other : goal.returns-in-Other
-unfolding export_words with_number with_choice
-returns-in-Other c = rw (c.in-Number.is, c.in-Number-b.is, c.in-Other.is)
+pub returns : goal.returns
+unfolding export_words with_number
+returns c = rw (c.in-Number.is, c.in-Number-b.is) (a_choice _ _ (sym c.choice.ensures ∙ c.in-Some.is))

@@ -8,17 +8,16 @@ use Rattle.day_steps.proofs.Laws.Codes.{facts_known}
 use Rattle.day_steps.proofs.packing.pack_days.Goals as goal
 
 pub day_code-requires : goal.day_code-requires
-day_code-requires c = rw (c.loop-k.invariant.2 (omega arith)) (facts_known _ (omega (arith, c.requires.days_bound)))
+day_code-requires c = rw (c.loop-day.invariant.1 (omega arith)) (facts_known _ (omega (arith, c.requires.days_bound)))
 
-pub loop-k-preserved : goal.loop-k-preserved
-loop-k-preserved c =
-    let long = length-set c.loop-k.days c.loop-k.k c.day_code.result in
-    let here : c.loop-k.g ≡ facts_of (c.args.f.day.0 + c.loop-k.k) = c.loop-k.invariant.2 (omega arith) in (
-      long ∙ c.loop-k.invariant.0,
-      omega arith,
-      λ h. c.next_facts-g.ensures ∙ ap next_facts here ∙ facts_next (c.args.f.day.0 + c.loop-k.k) (omega (arith, c.requires.days_bound)) ∙ ap facts_of (let e : suc (c.args.f.day.0 + c.loop-k.k) ≡ c.args.f.day.0 + (c.loop-k.k + 1) = omega arith in e),
+pub loop-day-preserved : goal.loop-day-preserved
+loop-day-preserved c =
+    let long = length-set c.loop-day.day-items c.loop-day.day-index c.day_code.result in
+    let here : c.loop-day.g ≡ facts_of (c.args.f.day.0 + c.loop-day.day-index) = c.loop-day.invariant.1 (omega arith) in (
+      long ∙ c.loop-day.invariant.0,
+      λ h. c.next_facts-g.ensures ∙ ap next_facts here ∙ facts_next (c.args.f.day.0 + c.loop-day.day-index) (omega (arith, c.requires.days_bound)) ∙ ap facts_of (let e : suc (c.args.f.day.0 + c.loop-day.day-index) ≡ c.args.f.day.0 + (c.loop-day.day-index + 1) = omega arith in e),
       λ j h.
-          lt_elim {X = Unit {0}} (λ _. get_or (set c.loop-k.days c.loop-k.k c.day_code.result) j 0 ≡ day_code (facts_of (c.args.f.day.0 + j))) j c.loop-k.k tt tt
-          (λ i. get_or-set_other c.loop-k.days c.loop-k.k j _ 0 (λ e. omega arith) ∙ c.loop-k.invariant.3 j i)
-          (λ i. let e : j ≡ c.loop-k.k = omega arith in rw e (get_or-set_same c.loop-k.days c.loop-k.k _ 0 (omega arith) ∙ c.day_code.ensures ∙ ap day_code here)),
+          lt_elim {X = Unit {0}} (λ _. get_or (set c.loop-day.day-items c.loop-day.day-index c.day_code.result) j 0 ≡ day_code (facts_of (c.args.f.day.0 + j))) j c.loop-day.day-index tt tt
+          (λ i. get_or-set_other c.loop-day.day-items c.loop-day.day-index j _ 0 (λ e. omega arith) ∙ c.loop-day.invariant.2 j i)
+          (λ i. let e : j ≡ c.loop-day.day-index = omega arith in rw e (get_or-set_same c.loop-day.day-items c.loop-day.day-index _ 0 (omega arith) ∙ c.day_code.ensures ∙ ap day_code here)),
     )

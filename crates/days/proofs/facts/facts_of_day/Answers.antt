@@ -1,14 +1,22 @@
--- `facts_of_day` meets its contract: out of range the refusal, else the fields are what its callees give.
-use Rattle.std.proofs.Common.{arith}
-use Rattle.prelude.proofs.Laws.Choice.{picks, lt_no}
+-- `facts_of_day` meets its contract: out of range the refusal, else what its callees give.
+use Rattle.std.proofs.Common.{sym, ◌∙◌}
+use Rattle.prelude.proofs.Laws.Choice.{lt_no}
+use Rattle.prelude.proofs.Laws.Results.{err_passed}
 use Rattle.days.specs.Answers.{facts_answer}
 use Rattle.days.specs.Facts.{facts_of}
+use Rattle.days.proofs.Laws.Answers.{range_left, range_kept}
 use Rattle.days.proofs.facts.facts_of_day.Goals as goal
 
-pub returns-then-n-gt-LAST_DAY : goal.returns-then-n-gt-LAST_DAY
-unfolding facts_answer facts_of
-returns-then-n-gt-LAST_DAY c = search picks depth 25 fits 3000
+pub returns-in_err-in_range : goal.returns-in_err-in_range
+unfolding facts_answer
+returns-in_err-in_range c = err_passed c.from_residual.ensures.1 ∙ range_left _ _ (sym c.in_range.ensures ∙ c.in_err-in_range.was)
+
+pub date_of-date-requires : goal.date_of-date-requires
+date_of-date-requires c = range_kept _ (sym c.in_range.ensures ∙ c.in_ok-in_range.was)
+
+pub weekday_of-requires : goal.weekday_of-requires
+weekday_of-requires c = range_kept _ (sym c.in_range.ensures ∙ c.in_ok-in_range.was)
 
 pub returns : goal.returns
 unfolding facts_answer facts_of
-returns c = lt_no _ _ _ (omega arith) (cc)
+returns c = lt_no _ _ _ (range_kept _ (sym c.in_range.ensures ∙ c.in_ok-in_range.was)) (cc)

@@ -1,16 +1,14 @@
 -- `next_day` meets its contract: each return is the choice that its tests make.
-use Rattle.prelude.proofs.Laws.Choice.{picks}
+use Rattle.std.proofs.Common.{arith}
+use Rattle.std.proofs.lemmas.Bool.Decides.{nat_tests}
+use Rattle.prelude.specs.Choice.{if_lt}
 use Rattle.days.specs.Answers.{next_answer}
 use Rattle.days.proofs.facts.next_day.Goals as goal
 
-pub returns-then-f-gt2099 : goal.returns-then-f-gt2099
-unfolding next_answer
-returns-then-f-gt2099 c = search picks depth 25 fits 3000
-
-pub returns-then-f-lt-LAST_DAY : goal.returns-then-f-lt-LAST_DAY
-unfolding next_answer
-returns-then-f-lt-LAST_DAY c = search picks depth 25 fits 3000
+pub returns-then-f-ge-LAST_DAY : goal.returns-then-f-ge-LAST_DAY
+unfolding next_answer if_lt
+returns-then-f-ge-LAST_DAY c = grind (arith, nat_tests)
 
 pub returns : goal.returns
-unfolding next_answer
-returns c = search picks depth 25 fits 3000
+unfolding next_answer if_lt
+returns c = grind (arith, nat_tests)

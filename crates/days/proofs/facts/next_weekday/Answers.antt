@@ -7,6 +7,6 @@ pub returns-then-w-lt7 : goal.returns-then-w-lt7
 unfolding next_weekday
 returns-then-w-lt7 c = search picks depth 25 fits 3000
 
-pub returns : goal.returns
+pub returns-else-w-lt7 : goal.returns-else-w-lt7
 unfolding next_weekday
-returns c = search picks depth 25 fits 3000
+returns-else-w-lt7 c = search picks depth 25 fits 3000

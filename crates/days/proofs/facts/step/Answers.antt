@@ -12,6 +12,6 @@ pub returns-then-f-lt12 : goal.returns-then-f-lt12
 unfolding stepped
 returns-then-f-lt12 c = search picks depth 25 fits 3000
 
-pub returns : goal.returns
+pub returns-else-f-lt12 : goal.returns-else-f-lt12
 unfolding stepped
-returns c = search picks depth 25 fits 3000
+returns-else-f-lt12 c = search picks depth 25 fits 3000

@@ -13,10 +13,10 @@ pub returns-then-d-lt3 : goal.returns-then-d-lt3
 unfolding day_number
 returns-then-d-lt3 c = omega (arith, march_early c.requires c.if-d-lt3.true)
 
-pub overflow_add-result-2 : goal.overflow_add-result-2
+pub overflow_add-result-else-d-lt3 : goal.overflow_add-result-else-d-lt3
 unfolding day_number
-overflow_add-result-2 c = omega (arith, march_late c.requires c.if-d-lt3.false, number_bound c.requires)
+overflow_add-result-else-d-lt3 c = omega (arith, march_late c.requires c.if-d-lt3.false, number_bound c.requires)
 
-pub returns : goal.returns
+pub returns-else-d-lt3 : goal.returns-else-d-lt3
 unfolding day_number
-returns c = omega (arith, march_late c.requires c.if-d-lt3.false)
+returns-else-d-lt3 c = omega (arith, march_late c.requires c.if-d-lt3.false)

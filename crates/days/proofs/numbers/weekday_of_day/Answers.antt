@@ -1,12 +1,18 @@
--- `weekday_of_day` meets its contract: each return is the choice that its tests make.
-use Rattle.prelude.proofs.Laws.Choice.{picks}
+-- `weekday_of_day` meets its contract: out of range the refusal, else what its callees give.
+use Rattle.std.proofs.Common.{sym, ◌∙◌}
+use Rattle.prelude.proofs.Laws.Choice.{lt_no}
+use Rattle.prelude.proofs.Laws.Results.{err_passed}
 use Rattle.days.specs.Answers.{weekday_answer}
+use Rattle.days.proofs.Laws.Answers.{range_left, range_kept}
 use Rattle.days.proofs.numbers.weekday_of_day.Goals as goal
 
-pub returns-then-n-gt-LAST_DAY : goal.returns-then-n-gt-LAST_DAY
+pub returns-in_err-in_range : goal.returns-in_err-in_range
 unfolding weekday_answer
-returns-then-n-gt-LAST_DAY c = search picks depth 25 fits 3000
+returns-in_err-in_range c = err_passed c.from_residual.ensures.1 ∙ range_left _ _ (sym c.in_range.ensures ∙ c.in_err-in_range.was)
+
+pub weekday_of-requires : goal.weekday_of-requires
+weekday_of-requires c = range_kept _ (sym c.in_range.ensures ∙ c.in_ok-in_range.was)
 
 pub returns : goal.returns
 unfolding weekday_answer
-returns c = search picks depth 25 fits 3000
+returns c = lt_no _ _ _ (range_kept _ (sym c.in_range.ensures ∙ c.in_ok-in_range.was)) (cc)

@@ -1,16 +1,14 @@
--- `calendar_of_psion` meets its contract: each return is the choice that its tests make.
-use Rattle.prelude.proofs.Laws.Choice.{picks}
+-- `calendar_of_psion` meets its contract: the range tested is that of the definition.
+use Rattle.std.proofs.Common.{arith}
+use Rattle.std.proofs.lemmas.Bool.Decides.{nat_tests}
+use Rattle.prelude.specs.Choice.{if_lt}
 use Rattle.days.specs.Answers.{calendar_of_psion}
 use Rattle.days.proofs.psion.calendar_of_psion.Goals as goal
 
-pub returns-then-p-le29219 : goal.returns-then-p-le29219
-unfolding calendar_of_psion
-returns-then-p-le29219 c = search picks depth 25 fits 3000
+pub returns-then-contains : goal.returns-then-contains
+unfolding calendar_of_psion if_lt
+returns-then-contains c = grind (arith, nat_tests)
 
-pub returns-else-p-le29219 : goal.returns-else-p-le29219
-unfolding calendar_of_psion
-returns-else-p-le29219 c = search picks depth 25 fits 3000
-
-pub returns-else-p-ge3652 : goal.returns-else-p-ge3652
-unfolding calendar_of_psion
-returns-else-p-ge3652 c = search picks depth 25 fits 3000
+pub returns-else-contains : goal.returns-else-contains
+unfolding calendar_of_psion if_lt
+returns-else-contains c = grind (arith, nat_tests)

@@ -1,10 +1,7 @@
 -- `month_of` meets its contract: after k halvings `left` months are left, from month `low` of the 45 on, and eleven leave one month.
-use Rattle.std.proofs.Common.{◌+◌, ◌-◌, ◌≤◌}
+use Rattle.std.proofs.Common.{◌+◌, ◌≤◌}
 use Rattle.days.specs.Halving.{Narrowed}
 use Rattle.days.proofs.search.month_of.Given as goal
 
 abbrev pub invariant-loop-k : goal.invariant-loop-k
-invariant-loop-k l = (l.k ≤ 11) × (l.low + l.left ≤ 45) × Narrowed l.n l.k (l.rest.first + l.low) l.left
-
-abbrev pub decreases-loop-k : goal.decreases-loop-k
-decreases-loop-k l = 11 - l.k
+invariant-loop-k l = (l.low + l.left ≤ 45) × Narrowed l.n l.k (l.rest.first + l.low) l.left

@@ -6,6 +6,6 @@ use Rattle.days.specs.Days.{month_length_at}
 use Rattle.days.proofs.TableRule.{entry}
 use Rattle.days.proofs.table.table.Goals as goal
 
-pub returns : goal.returns
+pub invariant_of-result : goal.invariant_of-result
 unfolding month_length_at month_length leap if_lt if_eq if_b
-returns c = let t : Unit {0} = tt in record { long = refl; start = λ k h. rw entry }
+invariant_of-result c = let t : Unit {0} = tt in record { right = record { long = refl; start = λ k h. rw entry } }

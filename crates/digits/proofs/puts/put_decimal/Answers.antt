@@ -1,31 +1,28 @@
 -- `put_decimal` meets its contract. The loop keeps: the digits of `left` are still to be written, and those behind them stand from i on.
-use Rattle.std.proofs.Common.{[], arith, ◌%◌, ◌*◌, ◌+◌, ◌-◌, ◌/◌, ◌≡◌}
+use Rattle.std.proofs.Common.{[], arith, ◌-◌}
 use Rattle.prelude.proofs.Laws.Grown.{set-splice}
-use Rattle.digits.proofs.Laws.Decimal.{decimal_one, decimal_more, length_positive, length_one}
+use Rattle.digits.proofs.Laws.Decimal.{decimal_one, decimal_more, length_positive, ten_of_more, below_ten}
 use Rattle.digits.proofs.Laws.Backed.{backed-none, backed-before, backed-all}
 use Rattle.digits.proofs.puts.put_decimal.Goals as goal
 
-pub loop-left-init : goal.loop-left-init
-loop-left-init c = (backed-none c.requires (omega arith), omega arith)
+pub loop-i-init : goal.loop-i-init
+loop-i-init c = backed-none c.requires (omega arith)
 
-pub overflow_sub-i : goal.overflow_sub-i
-overflow_sub-i c = omega (arith, length_positive c.loop-left.left)
+pub loop-i-preserved : goal.loop-i-preserved
+loop-i-preserved c =
+    backed-before _ (rw (decimal_more {n = c.loop-i.left} (ten_of_more (omega arith))) at c.loop-i.invariant) (omega arith) (set-splice _ (c.loop-i.i - 1) _ (omega arith))
 
-pub bounds-out-i : goal.bounds-out-i
-bounds-out-i c = omega (arith, length_positive c.loop-left.left)
+pub overflow_cast-out-2 : goal.overflow_cast-out-2
+overflow_cast-out-2 c = omega (arith, below_ten {n = c.loop-i.left} (omega arith))
 
-pub loop-left-preserved : goal.loop-left-preserved
-loop-left-preserved c =
-    let p = length_positive c.loop-left.left in
-    let e : 48 + c.loop-left.left % 10 ≡ 48 + (c.loop-left.left - 10 * (c.loop-left.left / 10)) = omega arith in (
-      backed-before _ (rw (decimal_more {n = c.loop-left.left} (omega arith), e) at c.loop-left.invariant.0) (omega arith) (set-splice _ (c.loop-left.i - 1) _ (omega arith)),
-      omega arith,
-    )
+pub overflow_add-out-2 : goal.overflow_add-out-2
+overflow_add-out-2 c = omega (arith, below_ten {n = c.loop-i.left} (omega arith))
 
 pub bounds-out-at : goal.bounds-out-at
-bounds-out-at c = omega (arith, length_positive c.loop-left.left)
+bounds-out-at c = omega (arith, length_positive c.loop-i.left)
 
-pub returns : goal.returns
-returns c =
-    let p = length_one {n = c.loop-left.left} (omega arith) in
-    record { next = omega arith; put = backed-all (backed-before {front = []} _ (rw (decimal_one {n = c.loop-left.left} (omega arith)) at c.loop-left.invariant.0) (omega arith) (set-splice _ c.args.at _ (omega arith))) }
+pub returns-clause-put : goal.returns-clause-put
+returns-clause-put c =
+    let l = length_positive c.loop-i.left in
+    let p = below_ten {n = c.loop-i.left} (omega arith) in
+    backed-all (backed-before {front = []} _ (rw (decimal_one p) at c.loop-i.invariant) (omega arith) (set-splice _ c.args.at _ (omega arith)))

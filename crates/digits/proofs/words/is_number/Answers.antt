@@ -1,22 +1,17 @@
--- `is_number` meets its contract. The loop keeps: the word has nothing but digits where what is left of it has nothing but digits.
-use Rattle.std.proofs.Common.{arith, sym, ◌∙◌}
-use Rattle.digits.proofs.Laws.Numbers.{number_empty, number_other, digits_low, digits_high, digits_next, digits_end}
+-- `is_number` meets its contract: each byte of a word that is not empty is a digit.
+use Rattle.std.proofs.Common.{rules, ◌∙◌, ap, sym, not, eqb-true}
+use Rattle.std.proofs.lemmas.Bool.{eqb-false}
+use borrow.Author.Tests.{tests}
+use Rattle.std.specs.Char.{is_ascii_digit}
+use Rattle.std.proofs.lemmas.Iterator.{YieldsList-from_slice}
+use Rattle.std.proofs.lemmas.Iterator.Search.{all_from_yields_List}
+use Rattle.digits.proofs.Laws.Numbers.{number_empty, number_other, digits_all}
 use Rattle.digits.proofs.words.is_number.Goals as goal
 
-pub returns-then-w-eq0 : goal.returns-then-w-eq0
-returns-then-w-eq0 c = sym (number_empty c.args.w.now c.if-w-eq0.true)
+pub returns-then-not-is_empty : goal.returns-then-not-is_empty
+returns-then-not-is_empty c =
+    all_from_yields_List is_ascii_digit _ _ _ c.all.ensures.ran (YieldsList-from_slice c.args.w.now cc) (λ x b q k. search (rules, tests))
+    ∙ digits_all c.args.w.now ∙ sym (number_other c.args.w.now (eqb-false _ _ (sym c.if-not-is_empty.ensures)))
 
-pub loop-i-init : goal.loop-i-init
-loop-i-init c = (omega arith, number_other c.args.w.now c.if-w-eq0.false)
-
-pub returns-then-b-lt48 : goal.returns-then-b-lt48
-returns-then-b-lt48 c = sym (c.loop-i.invariant.1 ∙ digits_low _ c.loop-i.i (omega arith) (omega arith))
-
-pub returns-then-b-gt57 : goal.returns-then-b-gt57
-returns-then-b-gt57 c = sym (c.loop-i.invariant.1 ∙ digits_high _ c.loop-i.i (omega arith) (omega arith) (omega arith))
-
-pub loop-i-preserved : goal.loop-i-preserved
-loop-i-preserved c = (omega arith, c.loop-i.invariant.1 ∙ digits_next _ c.loop-i.i (omega arith) (omega arith) (omega arith))
-
-pub returns : goal.returns
-returns c = sym (c.loop-i.invariant.1 ∙ digits_end _ c.loop-i.i (omega arith))
+pub returns-else-not-is_empty : goal.returns-else-not-is_empty
+returns-else-not-is_empty c = ap not c.if-not-is_empty.false ∙ sym (number_empty c.args.w.now (eqb-true _ _ (sym c.if-not-is_empty.ensures)))

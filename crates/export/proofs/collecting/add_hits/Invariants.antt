@@ -5,7 +5,7 @@ use Rattle.calendar_writer.specs.Scatter.{Added}
 use Rattle.export.proofs.collecting.add_hits.Given as goal
 
 abbrev pub invariant-loop-j : goal.invariant-loop-j
-invariant-loop-j l = Added (λ k. rule_shows l.c l.r (get_or l.days k 0)) l.w l.j l.initial.sums l.sums × (l.j ≤ length l.days) × (l.j < length l.days → rule_shows l.c l.r (get_or l.days l.j 0) ≡ true)
+invariant-loop-j l = Added (λ k. rule_shows l.span.choice l.r (get_or l.span.days.now k 0)) l.w l.j l.initial.sums l.sums × (l.j ≤ length l.span.days.now) × (l.j < length l.span.days.now → rule_shows l.span.choice l.r (get_or l.span.days.now l.j 0) ≡ true)
 
 abbrev pub decreases-loop-j : goal.decreases-loop-j
-decreases-loop-j l = length l.days - l.j
+decreases-loop-j l = length l.span.days.now - l.j

@@ -13,7 +13,7 @@ use Rattle.export.proofs.collecting.take_in.Goals as goal
 pub add_hits-requires : goal.add_hits-requires
 add_hits-requires c =
     let l : c.listed_at-listed.result.text.length ≤ most_text = omega (arith, ap (λ (x : Stretch). x.length) c.listed_at-listed.ensures.text_value, c.requires.sound.short) in
-    record { days = c.requires.days; sums_len = c.requires.sums_len; next = c.requires.next; w_le_most_weight = omega (arith, c.weight_of-w.ensures, bit_most c.listed_at-listed.result.times.alarm); at_most = c.requires.at_most }
+    record { sums_len = c.requires.sums_len; next = c.requires.next; w_le_most_weight = omega (arith, c.weight_of-w.ensures, bit_most c.listed_at-listed.result.times.alarm); at_most = c.requires.at_most }
 
 pub returns : goal.returns
 returns c =

@@ -1,17 +1,16 @@
--- `flags_of` meets its contract: the test decides flag 2.
-use Rattle.std.proofs.Common.{arith, ℕ}
-use Rattle.prelude.proofs.Laws.Bytes.{bit_most}
-use Rattle.prelude.proofs.Laws.Choice.{is_eq, is_ne}
+-- `flags_of` meets its contract: the alarm's mark, and the test that decides flag 2.
+use mir.Val.{bool_byte}
+use Rattle.std.proofs.Common.{arith, eq-eqb, nat_eq, ne_eqb, not, ◌%◌, ◌*◌, ◌∙◌, ◌≡◌}
+use Rattle.prelude.proofs.Laws.Choice.{eq_elim}
 use Rattle.export.specs.Export.{special_time}
+use Rattle.export.proofs.Laws.Export.{mark_bit}
 use Rattle.export.proofs.filling.flags_of.Goals as goal
-
-pub returns-then-minute-interval-eq0 : goal.returns-then-minute-interval-eq0
-unfolding special_time
-returns-then-minute-interval-eq0 c = omega (arith, is_eq c.if-minute-interval-eq0.true {X = ℕ} 0 2, c.bit_of-mark.ensures)
-
-pub overflow_add-result : goal.overflow_add-result
-overflow_add-result c = omega (arith, c.bit_of-mark.ensures, bit_most c.args.alarm)
 
 pub returns : goal.returns
 unfolding special_time
-returns c = omega (arith, is_ne c.if-minute-interval-eq0.false {X = ℕ} 0 2, c.bit_of-mark.ensures)
+returns c =
+    let m = c.args.minute.0 % c.args.interval in
+    let mark : c.from-2.result ≡ bool_byte (not (nat_eq m 0)) = c.from-2.ensures in
+    let special : 2 * c.from-2.result ≡ special_time c.args.interval c.args.minute.0 =
+    eq_elim (λ z. 2 * c.from-2.result ≡ z) m 0 0 2 (λ e. rw (mark, eq-eqb m 0 e)) (λ n. rw (mark, ne_eqb m 0 n)) in
+    omega (arith, c.from.ensures ∙ mark_bit c.args.alarm, special)

@@ -5,7 +5,11 @@ use Rattle.calendar_writer.specs.Scatter.{Added, scatter}
 use Rattle.export.proofs.scattering.put_hits.Given as goal
 
 abbrev pub invariant-loop-j : goal.invariant-loop-j
-invariant-loop-j l = (scatter (length l.days) (λ k. rule_shows l.c l.r (get_or l.days k 0)) l.piece l.initial.places 0 l.initial.out ≡ scatter (length l.days - l.j) (λ k. rule_shows l.c l.r (get_or l.days k 0)) l.piece l.initial.places l.j l.out) × Added (λ k. rule_shows l.c l.r (get_or l.days k 0)) (length l.piece) l.j l.initial.places l.places × (length l.out ≡ length l.initial.out) × (l.j ≤ length l.days) × (l.j < length l.days → rule_shows l.c l.r (get_or l.days l.j 0) ≡ true)
+invariant-loop-j l =
+    (scatter (length l.span.days.now) (λ k. rule_shows l.span.choice l.r (get_or l.span.days.now k 0)) l.piece l.initial.places 0 l.initial.out
+    ≡ scatter (length l.span.days.now - l.j) (λ k. rule_shows l.span.choice l.r (get_or l.span.days.now k 0)) l.piece l.initial.places l.j l.out)
+    × Added (λ k. rule_shows l.span.choice l.r (get_or l.span.days.now k 0)) (length l.piece) l.j l.initial.places l.places
+    × (length l.out ≡ length l.initial.out) × (l.j ≤ length l.span.days.now) × (l.j < length l.span.days.now → rule_shows l.span.choice l.r (get_or l.span.days.now l.j 0) ≡ true)
 
 abbrev pub decreases-loop-j : goal.decreases-loop-j
-decreases-loop-j l = length l.days - l.j
+decreases-loop-j l = length l.span.days.now - l.j

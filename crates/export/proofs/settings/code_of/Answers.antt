@@ -1,16 +1,17 @@
--- `code_of` meets its contract: each return by the tests before it.
+-- `code_of` meets its contract: each arm is the choice of its number.
+use Rattle.std.proofs.Common.{arith, refl}
 use Rattle.export.specs.Export.{code_of}
-use Rattle.prelude.proofs.Laws.Choice.{picks}
+use Rattle.prelude.proofs.Laws.Choice.{eq_yes, eq_no}
 use Rattle.export.proofs.settings.code_of.Goals as goal
 
-pub returns-then-granularity-eq15 : goal.returns-then-granularity-eq15
+pub returns-in-15 : goal.returns-in-15
 unfolding code_of
-returns-then-granularity-eq15 c = search picks depth 25 fits 3000
+returns-in-15 c = eq_yes _ _ _ (omega arith) refl
 
-pub returns-then-granularity-eq60 : goal.returns-then-granularity-eq60
+pub returns-in-60 : goal.returns-in-60
 unfolding code_of
-returns-then-granularity-eq60 c = search picks depth 25 fits 3000
+returns-in-60 c = eq_no _ _ _ (omega arith) (eq_yes _ _ _ (omega arith) refl)
 
-pub returns : goal.returns
+pub returns-in_default : goal.returns-in_default
 unfolding code_of
-returns c = search picks depth 25 fits 3000
+returns-in_default c = eq_no _ _ _ (omega arith) (eq_no _ _ _ (omega arith) refl)

@@ -7,6 +7,6 @@ pub returns-then-last : goal.returns-then-last
 unfolding choice_of
 returns-then-last c = search picks depth 25 fits 3000
 
-pub returns : goal.returns
+pub returns-else-last : goal.returns-else-last
 unfolding choice_of
-returns c = search picks depth 25 fits 3000
+returns-else-last c = search picks depth 25 fits 3000

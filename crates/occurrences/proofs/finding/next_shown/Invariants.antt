@@ -1,4 +1,4 @@
--- `next_shown` meets its contract: no day from the start up to the present one shows, by `free-wait`; before the start none does, by `free-before`.
+-- `next_shown` meets its contract: no day from the start up to the present one shows, by `free-wait`; before the start none does, by `free-start`.
 use Rattle.std.proofs.Common.{◌-◌, ◌≤◌}
 use Rattle.days.specs.Days.{last_day}
 use Rattle.day_steps.specs.Moves.{FactsAt}

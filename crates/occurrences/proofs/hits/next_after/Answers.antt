@@ -1,6 +1,5 @@
 -- `next_after` meets its contract: a weekly rule by its callee, any other past its last date or its gap (`after-gap`) and on from there.
 use Rattle.std.proofs.Common.{arith}
-use Rattle.std.proofs.Common.{arith}
 use Rattle.occurrences.proofs.Laws.After.{gap_bounds, after_last, after-gap}
 use Rattle.occurrences.proofs.hits.next_after.Goals as goal
 

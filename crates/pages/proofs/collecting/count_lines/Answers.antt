@@ -3,36 +3,35 @@ use Rattle.std.proofs.Common.{List, add-one, ap, arith, length, sym, zero-add, �
 use Rattle.sorting.specs.Keep.{keep}
 use Rattle.book.proofs.Laws.Books.{cursor_first, cursor-ahead}
 use Rattle.pages.specs.Pages.{Numbered, falls_on}
-use Rattle.pages.proofs.Laws.Pages.{numbered_first, Turn, numbered_cursor, keep-numbered-yes, keep-numbered-no, keep-numbered_end, length_page}
+use Rattle.pages.proofs.Laws.Pages.{numbered_first, numbered_cursor, keep-numbered-yes, keep-numbered-no, keep-numbered_end, length_page}
 use Rattle.pages.proofs.collecting.count_lines.Goals as goal
+use Rattle.pages.proofs.collecting.count_lines.Goals.{then-falls_at, else-falls_at}
 
-pub loop-n-init : goal.loop-n-init
-loop-n-init c = (
-  cursor_first _ c.requires.long,
-  omega arith,
-  omega arith,
-  ap (λ (xs : List Numbered). length (keep (falls_on c.args.c c.args.a.facts) xs)) (numbered_first (c.args.file.now)) ∙ sym (zero-add _),
-)
+pub loop-init : goal.loop-init
+loop-init c =
+    record {
+      place = cursor_first _ c.requires.long;
+      most = omega arith;
+      counted = ap (λ (xs : List Numbered). length (keep (falls_on c.args.c c.args.a.facts) xs)) (numbered_first c.args.file.now) ∙ sym (zero-add _);
+    }
 
-pub next_place-at-requires : goal.next_place-at-requires
-next_place-at-requires c = (cursor-ahead _ _ _ c.loop-n.invariant.0 (omega arith)).entry
+pub invariant_of-here : goal.invariant_of-here
+invariant_of-here c = record { there = (cursor-ahead _ _ _ c.loop.invariant.place (omega arith)).entry }
 
-pub falls_at-requires : goal.falls_at-requires
-falls_at-requires c = (cursor-ahead _ _ _ c.loop-n.invariant.0 (omega arith)).entry
-
-pub loop-n-preserved-then-falls_at : goal.loop-n-preserved-then-falls_at
-loop-n-preserved-then-falls_at c =
-    let t = (let turned : Turn (c.args.file.now) c.loop-n.n c.loop-n.at = numbered_cursor _ _ _ c.loop-n.invariant.0 (omega arith) in turned) in
-    let e = ap (length {A = Numbered}) (keep-numbered-yes (c.args.file.now) c.loop-n.n c.loop-n.at t (falls_on c.args.c c.args.a.facts) (sym c.falls_at.ensures ∙ c.if-falls_at.true)) in
-    rw (add-one c.loop-n.n, c.next_place-at.ensures) (t.next, omega arith, omega arith, omega (arith, c.loop-n.invariant.3, e))
-
-pub loop-n-preserved : goal.loop-n-preserved
-loop-n-preserved c =
-    let t = (let turned : Turn (c.args.file.now) c.loop-n.n c.loop-n.at = numbered_cursor _ _ _ c.loop-n.invariant.0 (omega arith) in turned) in
-    let e = ap (length {A = Numbered}) (keep-numbered-no (c.args.file.now) c.loop-n.n c.loop-n.at t (falls_on c.args.c c.args.a.facts) (sym c.falls_at.ensures ∙ c.if-falls_at.false)) in
-    rw (add-one c.loop-n.n, c.next_place-at.ensures) (t.next, omega arith, omega arith, omega (arith, c.loop-n.invariant.3, e))
+pub loop-preserved : goal.loop-preserved
+loop-preserved c =
+    let t = numbered_cursor _ _ _ c.loop.invariant.place (omega arith) in
+    rw (add-one c.loop.counter, c.next_place-at.ensures)
+    (elim c.if-falls_at.branch [
+      | then-falls_at w ↦
+          let e = ap (length {A = Numbered}) (keep-numbered-yes _ _ _ t (falls_on c.args.c c.args.a.facts) (sym c.falls_at.ensures ∙ w.if-falls_at.true)) in
+          record { place = t.next; most = omega arith; counted = omega arith }
+      | else-falls_at w ↦
+          let e = ap (length {A = Numbered}) (keep-numbered-no _ _ _ t (falls_on c.args.c c.args.a.facts) (sym c.falls_at.ensures ∙ w.if-falls_at.false)) in
+          record { place = t.next; most = omega arith; counted = omega arith }
+    ])
 
 pub returns : goal.returns
 returns c =
-    let e = ap (length {A = Numbered}) (keep-numbered_end (c.args.file.now) c.loop-n.n (falls_on c.args.c c.args.a.facts) (omega arith)) in
-    omega (arith, c.loop-n.invariant.3, e, length_page (falls_on c.args.c c.args.a.facts) (c.args.file.now))
+    let e = ap (length {A = Numbered}) (keep-numbered_end c.args.file.now c.loop.counter (falls_on c.args.c c.args.a.facts) (omega arith)) in
+    omega (arith, length_page (falls_on c.args.c c.args.a.facts) c.args.file.now)

@@ -1,17 +1,17 @@
 -- `page_length` meets its contract: the book and the day decide, then the page is measured.
-use Rattle.std.proofs.Common.{ap, sym, ◌∙◌}
+use Rattle.std.proofs.Common.{Ok, ap, sym, ◌∙◌}
+use Rattle.prelude.proofs.Laws.Results.{err_passed}
 use Rattle.pages.proofs.Laws.Pages.{validated_ready}
-use Rattle.prelude.specs.declared.answers.CountAnswer.{CountAnswer}
 use Rattle.printing.specs.Answers.{page_length_in}
 use Rattle.printing.proofs.calls.page_length.Goals as goal
 
+pub returns-in_err-a : goal.returns-in_err-a
+unfolding page_length_in
+returns-in_err-a c = err_passed c.from_residual.ensures.1 ∙ ap (page_length_in _ _) (sym c.in_err-a.was ∙ c.validate.ensures)
+
 pub page_size-requires : goal.page_size-requires
-page_size-requires c = validated_ready _ _ (sym c.validate-a.ensures ∙ c.in-Ready.is)
+page_size-requires c = validated_ready _ _ (sym c.validate.ensures ∙ c.in_ok-a.was)
 
-pub returns-in-Ready : goal.returns-in-Ready
+pub returns : goal.returns
 unfolding page_length_in
-returns-in-Ready c = ap CountAnswer.Count c.page_size.ensures ∙ ap (page_length_in _ _) (sym (sym c.validate-a.ensures ∙ c.in-Ready.is))
-
-pub returns-in-Refused : goal.returns-in-Refused
-unfolding page_length_in
-returns-in-Refused c = ap (page_length_in _ _) (sym (sym c.validate-a.ensures ∙ c.in-Refused.is))
+returns c = ap Ok c.page_size.ensures ∙ ap (page_length_in _ _) (sym c.in_ok-a.was ∙ c.validate.ensures)

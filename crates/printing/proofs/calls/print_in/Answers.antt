@@ -1,7 +1,6 @@
--- `print_in` meets its contract: either working space has room for all records.
-use Rattle.std.proofs.Common.{arith}
+-- `print_in` meets its contract: the larger working space has room for all records of any book.
 use Rattle.pages.proofs.Laws.Pages.{ready_most}
 use Rattle.printing.proofs.calls.print_in.Goals as goal
 
-pub print_with-requires-2 : goal.print_with-requires-2
-print_with-requires-2 c = record { ready_book = c.requires; records_in_bounds = ready_most c.requires; codes_in_bounds = omega arith }
+pub print_within-requires-else-a-le64-clause-records_in_bounds : goal.print_within-requires-else-a-le64-clause-records_in_bounds
+print_within-requires-else-a-le64-clause-records_in_bounds c = ready_most c.requires

@@ -1,6 +1,8 @@
 -- `record_size` meets its contract: thirteen bytes, the mark's and the text's, which lies in the file by `entry_inside`.
 -- the text is as long as it says
-use Rattle.std.proofs.Common.{List, ap, arith, length, length-drop, length-take, ℕ, ◌∙◌, ◌≡◌}
+use mir.Val.{bool_byte}
+use Rattle.std.proofs.Common.{Bool, true, false, refl, List, ap, arith, length, length-drop, length-take, ℕ, ◌∙◌, ◌≡◌}
+use Rattle.prelude.specs.Choice.{if_b}
 use Rattle.prelude.specs.Bytes.{bit, stretch_bytes}
 use Rattle.records.specs.Fields.{record_of, text_length}
 use Rattle.book.specs.Walk.{type_at, body_at}
@@ -17,9 +19,16 @@ whole f at r =
     let b = i.note in
     simp (length-take, length-drop) (omega arith)
 
+as_bit : (b : Bool) → bool_byte b ≡ bit b
+unfolding bit if_b
+as_bit true = refl
+as_bit false = refl
+
 pub returns : goal.returns
 unfolding entry_at
 returns c =
-    let b = c.bit_of.ensures ∙ ap bit (c.day_missing-moved.ensures ∙ ap (λ (p : List ℕ). day_missing c.args.f (record_of (type_at c.args.file.now c.args.at) p)) c.body_at-p.ensures) in
-    let t : c.text_length.result ≡ text_length (type_at c.args.file.now c.args.at) (body_at c.args.file.now c.args.at) = cc in
-    omega (arith, b, t, whole c.args.file.now c.args.at c.requires)
+    let m = c.day_missing-moved.ensures ∙ ap (λ (p : List ℕ). day_missing c.args.f (record_of c.kind-t.result p)) c.body-p.ensures
+    ∙ ap (λ (t : ℕ). day_missing c.args.f (record_of t (body_at c.args.here.file.now c.args.here.at))) c.kind-t.ensures in
+    let b = c.from.ensures ∙ as_bit _ ∙ ap bit m in
+    let t : c.from-2.result ≡ text_length (type_at c.args.here.file.now c.args.here.at) (body_at c.args.here.file.now c.args.here.at) = cc in
+    omega (arith, b, t, whole c.args.here.file.now c.args.here.at c.args.here.there)

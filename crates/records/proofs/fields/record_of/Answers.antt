@@ -1,28 +1,30 @@
 -- `record_of` meets its contract: each return is the choice that its tests make.
-use Rattle.prelude.proofs.Laws.Choice.{picks}
+use Rattle.std.proofs.Common.{arith}
+use Rattle.std.proofs.lemmas.Grind.{common_steps}
+use Rattle.prelude.specs.Choice.{if_eq}
 use Rattle.records.specs.Fields.{record_of}
 use Rattle.records.proofs.fields.record_of.Goals as goal
 
-pub returns-then-t-eq1 : goal.returns-then-t-eq1
-unfolding record_of
-returns-then-t-eq1 c = search picks depth 25 fits 3000
+pub returns-in-1 : goal.returns-in-1
+unfolding record_of if_eq
+returns-in-1 c = grind (arith, common_steps)
 
-pub returns-then-t-eq2 : goal.returns-then-t-eq2
-unfolding record_of
-returns-then-t-eq2 c = search picks depth 25 fits 3000
+pub returns-in-2 : goal.returns-in-2
+unfolding record_of if_eq
+returns-in-2 c = grind (arith, common_steps)
 
-pub returns-then-t-eq3 : goal.returns-then-t-eq3
-unfolding record_of
-returns-then-t-eq3 c = search picks depth 25 fits 3000
+pub returns-in-3 : goal.returns-in-3
+unfolding record_of if_eq
+returns-in-3 c = grind (arith, common_steps)
 
-pub returns-then-t-eq4 : goal.returns-then-t-eq4
-unfolding record_of
-returns-then-t-eq4 c = search picks depth 25 fits 3000
+pub returns-in-4 : goal.returns-in-4
+unfolding record_of if_eq
+returns-in-4 c = grind (arith, common_steps)
 
-pub returns-then-t-eq5 : goal.returns-then-t-eq5
-unfolding record_of
-returns-then-t-eq5 c = search picks depth 25 fits 3000
+pub returns-in-5 : goal.returns-in-5
+unfolding record_of if_eq
+returns-in-5 c = grind (arith, common_steps)
 
-pub returns : goal.returns
-unfolding record_of
-returns c = search picks depth 25 fits 3000
+pub returns-in_default : goal.returns-in_default
+unfolding record_of if_eq
+returns-in_default c = grind (arith, common_steps)

@@ -3,5 +3,5 @@ use Rattle.std.proofs.Common.{arith}
 use Rattle.records.proofs.Laws.Judged.{fixed_range}
 use Rattle.records.proofs.fields.text_length.Goals as goal
 
-pub overflow_sub-fixed : goal.overflow_sub-fixed
-overflow_sub-fixed c = omega (arith, fixed_range c.args.t)
+pub overflow_sub-fixed_of : goal.overflow_sub-fixed_of
+overflow_sub-fixed_of c = omega (arith, fixed_range c.args.t)

@@ -1,12 +1,14 @@
 -- `dated_ok` meets its contract: each return is the choice that its tests make.
-use Rattle.prelude.proofs.Laws.Choice.{picks}
+use Rattle.std.proofs.Common.{arith}
+use Rattle.std.proofs.lemmas.Grind.{common_steps}
+use Rattle.prelude.specs.Choice.{if_b}
 use Rattle.records.specs.Ranges.{dated_ok}
 use Rattle.records.proofs.ranges.dated_ok.Goals as goal
 
 pub returns-then-is_real : goal.returns-then-is_real
-unfolding dated_ok
-returns-then-is_real c = search picks depth 25 fits 3000
+unfolding dated_ok if_b
+returns-then-is_real c = grind (arith, common_steps)
 
-pub returns : goal.returns
-unfolding dated_ok
-returns c = search picks depth 25 fits 3000
+pub returns-else-is_real : goal.returns-else-is_real
+unfolding dated_ok if_b
+returns-else-is_real c = grind (arith, common_steps)

@@ -1,20 +1,17 @@
 -- `repeat_ok` meets its contract: each return is the choice that its tests make.
-use Rattle.prelude.proofs.Laws.Choice.{picks}
+use Rattle.std.proofs.Common.{arith}
+use Rattle.std.proofs.lemmas.Bool.Decides.{nat_tests}
+use Rattle.std.proofs.lemmas.Grind.{common_steps}
+use Rattle.days.specs.Dates.{before}
+use Rattle.prelude.specs.Choice.{if_b, if_lt}
 use Rattle.records.specs.Ranges.{repeat_ok}
 use Rattle.records.proofs.ranges.repeat_ok.Goals as goal
+use Rattle.records.proofs.ranges.repeat_ok.Goals.{then-is_real-2, else-is_real-2}
 
-pub returns-then-before : goal.returns-then-before
-unfolding repeat_ok
-returns-then-before c = search picks depth 25 fits 3000
+pub returns-then-le : goal.returns-then-le
+unfolding repeat_ok before if_lt if_b
+returns-then-le c = grind (arith, nat_tests, common_steps)
 
-pub returns-then-is_real-2 : goal.returns-then-is_real-2
-unfolding repeat_ok
-returns-then-is_real-2 c = search picks depth 25 fits 3000
-
-pub returns-then-is_real : goal.returns-then-is_real
-unfolding repeat_ok
-returns-then-is_real c = search picks depth 25 fits 3000
-
-pub returns : goal.returns
-unfolding repeat_ok
-returns c = search picks depth 25 fits 3000
+pub returns-else-le : goal.returns-else-le
+unfolding repeat_ok if_b before if_lt
+returns-else-le c = grind (arith, nat_tests, common_steps)

@@ -1,12 +1,14 @@
 -- `weekly_ok` meets its contract: each return is the choice that its tests make.
-use Rattle.prelude.proofs.Laws.Choice.{picks}
-use Rattle.records.specs.Ranges.{weekly_ok}
+use Rattle.std.proofs.Common.{arith}
+use Rattle.std.proofs.lemmas.Grind.{common_steps}
+use Rattle.prelude.specs.Choice.{if_lt, if_b}
+use Rattle.records.specs.Ranges.{weekly_ok, between}
 use Rattle.records.proofs.ranges.weekly_ok.Goals as goal
 
-pub returns-then-between : goal.returns-then-between
-unfolding weekly_ok
-returns-then-between c = search picks depth 25 fits 3000
+pub returns-then-contains : goal.returns-then-contains
+unfolding weekly_ok between if_lt if_b
+returns-then-contains c = grind (arith, common_steps)
 
-pub returns : goal.returns
-unfolding weekly_ok
-returns c = search picks depth 25 fits 3000
+pub returns-else-contains : goal.returns-else-contains
+unfolding weekly_ok between if_lt if_b
+returns-else-contains c = grind (arith, common_steps)

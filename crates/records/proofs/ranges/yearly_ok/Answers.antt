@@ -1,13 +1,14 @@
 -- `yearly_ok` meets its contract: each return is the choice that its tests make.
-use Rattle.std.proofs.Common.{refl}
-use Rattle.prelude.proofs.Laws.Choice.{if_by_true, if_by_false}
-use Rattle.records.specs.Ranges.{yearly_ok}
+use Rattle.std.proofs.Common.{arith}
+use Rattle.std.proofs.lemmas.Grind.{common_steps}
+use Rattle.prelude.specs.Choice.{if_lt, if_b}
+use Rattle.records.specs.Ranges.{yearly_ok, between}
 use Rattle.records.proofs.ranges.yearly_ok.Goals as goal
 
-pub returns-then-between : goal.returns-then-between
-unfolding yearly_ok
-returns-then-between c = if_by_true _ _ _ (cc) c.if-between.true (cc)
+pub returns-then-contains : goal.returns-then-contains
+unfolding yearly_ok between if_lt if_b
+returns-then-contains c = grind (arith, common_steps)
 
-pub returns : goal.returns
-unfolding yearly_ok
-returns c = if_by_false _ _ _ (cc) c.if-between.false refl
+pub returns-else-contains : goal.returns-else-contains
+unfolding yearly_ok between if_lt if_b
+returns-else-contains c = grind (arith, common_steps)

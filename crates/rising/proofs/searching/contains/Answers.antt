@@ -1,7 +1,7 @@
--- `contains` meets its contract: nothing stands in an empty list, and in another a number is looked for at its place.
-use Rattle.std.proofs.Common.{arith, sym}
-use Rattle.rising.proofs.Laws.Rising.{contains-none}
+-- `contains` meets its contract by what the library's search finds.
+use Rattle.std.proofs.Common.{◌∙◌}
+use Rattle.rising.proofs.Laws.Rising.{search-contains}
 use Rattle.rising.proofs.searching.contains.Goals as goal
 
-pub returns-then-list-eq0 : goal.returns-then-list-eq0
-returns-then-list-eq0 c = sym (contains-none _ _ (omega arith))
+pub returns : goal.returns
+returns c = c.is_ok.ensures.value ∙ search-contains _ _ _ c.requires c.binary_search.ensures.position

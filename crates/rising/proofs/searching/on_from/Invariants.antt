@@ -1,10 +1,6 @@
 -- `on_from` meets its contract: the numbers behind are below the one asked for, and the first that is not ends the loop.
-use Rattle.std.proofs.Common.{length, ◌-◌}
 use Rattle.rising.specs.Rising.{Below}
 use Rattle.rising.proofs.searching.on_from.Given as goal
 
 abbrev pub invariant-loop-i : goal.invariant-loop-i
 invariant-loop-i l = Below l.list l.number l.i
-
-abbrev pub decreases-loop-i : goal.decreases-loop-i
-decreases-loop-i l = length l.list - l.i

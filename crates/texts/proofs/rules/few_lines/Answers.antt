@@ -1,24 +1,24 @@
--- `few_lines` meets its contract. The loop keeps: the zeros counted and the lines from `k` on are all lines.
-use Rattle.std.proofs.Common.{arith, le-leb, length, sym, ◌+◌, ◌≡◌}
-use borrow.Author.Tests.{lt-leb}
-use Rattle.texts.specs.Notes.{lines_of, most_lines}
-use Rattle.texts.proofs.Laws.Rules.{count_zero, count_other, count_last}
+-- `few_lines` meets its contract. The loop keeps: the zeros counted and the lines from a place on are all lines.
+use Rattle.std.proofs.Common.{arith, get_or-take, length, length-take-le, sym, take, ◌+◌, ◌-◌, ◌∙◌, ◌≡◌}
+use Rattle.texts.specs.Notes.{lines_of}
+use Rattle.texts.proofs.Laws.Rules.{count_zero, count_other, count_last, leb_same}
 use Rattle.texts.proofs.rules.few_lines.Goals as goal
-use Rattle.texts.proofs.rules.few_lines.Goals.{then-s-k-eq0, else-s-k-eq0}
+use Rattle.texts.proofs.rules.few_lines.Goals.{then-b-eq0, else-b-eq0}
 
-pub loop-k-preserved : goal.loop-k-preserved
-loop-k-preserved c =
-    elim c.if-s-k-eq0.branch [
-      | then-s-k-eq0 w ↦ omega (arith, count_zero c.args.s.now c.loop-k.k (omega arith) w.if-s-k-eq0.true)
-      | else-s-k-eq0 w ↦ omega (arith, count_other c.args.s.now c.loop-k.k (omega arith) w.if-s-k-eq0.false)
+pub loop-b-preserved : goal.loop-b-preserved
+loop-b-preserved c =
+    let s = c.args.s.now in
+    let i = c.loop-b.b-index in
+    let l : length (take (length s - 1) s) ≡ length s - 1 = length-take-le (length s - 1) s (omega arith) in
+    let e = get_or-take (length s - 1) s i 0 (omega arith) in
+    elim c.if-b-eq0.branch [
+      | then-b-eq0 w ↦ omega (arith, count_zero s i (omega arith) (sym e ∙ w.if-b-eq0.true))
+      | else-b-eq0 w ↦ omega (arith, count_other s i (omega arith) (λ z. w.if-b-eq0.false (e ∙ z)))
     ]
-
-pub returns-then-zeros-gt10 : goal.returns-then-zeros-gt10
-returns-then-zeros-gt10 c =
-    let n = (let counted : length (lines_of c.args.s.now) ≡ c.loop-k.zeros + 1 = let e = count_last c.args.s.now c.loop-k.k (omega arith) in
-    omega (arith, e) in counted) in sym (lt-leb (length (lines_of c.args.s.now)) most_lines (omega arith))
 
 pub returns : goal.returns
 returns c =
-    let n = (let counted : length (lines_of c.args.s.now) ≡ c.loop-k.zeros + 1 = let e = count_last c.args.s.now c.loop-k.k (omega arith) in
-    omega (arith, e) in counted) in sym (le-leb (length (lines_of c.args.s.now)) most_lines (omega arith))
+    let s = c.args.s.now in
+    let l : length (take (length s - 1) s) ≡ length s - 1 = length-take-le (length s - 1) s (omega arith) in
+    let counted : length (lines_of s) ≡ c.loop-b.zeros + 1 = omega (arith, count_last s c.loop-b.b-index (omega arith)) in
+    leb_same (λ h. omega arith) (λ h. omega arith)

@@ -6,5 +6,5 @@ use Rattle.texts.proofs.rules.lines_ok.Goals as goal
 pub returns-then-few_lines : goal.returns-then-few_lines
 returns-then-few_lines c = c.short_lines.ensures ∙ sym (note_few _ (omega arith) (sym c.few_lines.ensures ∙ c.if-few_lines.true))
 
-pub returns : goal.returns
-returns c = sym (note_many _ (omega arith) (sym c.few_lines.ensures ∙ c.if-few_lines.false))
+pub returns-else-few_lines : goal.returns-else-few_lines
+returns-else-few_lines c = c.if-few_lines.false ∙ sym (note_many _ (omega arith) (sym c.few_lines.ensures ∙ c.if-few_lines.false))

@@ -4,7 +4,4 @@ use Rattle.prelude.specs.Bytes.{byte}
 use Rattle.texts.proofs.rules.past_zero.Given as goal
 
 abbrev pub invariant-loop-k : goal.invariant-loop-k
-invariant-loop-k l = (l.k ≤ 40) × ((i : ℕ) → l.start + l.k ≤ i → i < l.start + 40 → byte l.s i ≡ 0 → ⊥)
-
-abbrev pub decreases-loop-k : goal.decreases-loop-k
-decreases-loop-k l = l.k
+invariant-loop-k l = (i : ℕ) → l.start + l.k ≤ i → i < l.start + 40 → byte l.s i ≡ 0 → ⊥

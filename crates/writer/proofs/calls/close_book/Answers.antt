@@ -1,19 +1,24 @@
--- `close_book` meets its contract: the refusal's number decides both the answer and the buffer.
-use Rattle.std.proofs.Common.{ap, arith, length, refl, sym, true, ℕ, ◌∙◌, ◌≡◌}
-use Rattle.prelude.proofs.Laws.Choice.{eq_yes, eq_no}
-use Rattle.prelude.specs.Refusals.{refusal}
-use Rattle.writer.specs.Writing.{gives_where, leaves_where, close_refusal, close_gives, close_leaves}
-use Rattle.writer.proofs.Laws.Calls.{close_facts}
-use Rattle.writer.specs.declared.types.WriteAnswer.{WriteAnswer}
+-- `close_book` meets its contract: the judgement decides both the answer and the buffer.
+use Rattle.std.proofs.Common.{ap, arith, sym, true, ℕ, ◌∙◌}
+use Rattle.prelude.proofs.Laws.Results.{err_passed}
+use Rattle.writer.specs.Writing.{passed, close_gives, close_leaves}
+use Rattle.writer.proofs.Laws.Calls.{close_facts, gives-fine, leaves-fine, passed-fine, passed-gives, passed-leaves}
 use Rattle.writer.proofs.calls.close_book.Goals as goal
 
-pub copy_in-used-requires : goal.copy_in-used-requires
-copy_in-used-requires c = omega (arith, (close_facts _ _ (let zero : close_refusal c.args.w (length c.args.buf.now) ≡ 0 = sym c.close_refusal-n.ensures ∙ c.if-n-eq0.true in zero)).buffer)
+pub returns-in_err-passed : goal.returns-in_err-passed
+unfolding close_gives close_leaves
+returns-in_err-passed c =
+    let h = sym (ap (λ j. passed j c.args.w) c.judge_close.ensures) ∙ (sym c.passed.ensures ∙ c.in_err-passed.was) in
+    record { gives = passed-gives _ _ _ h (err_passed c.from_residual.ensures.1); leaves = passed-leaves _ _ _ _ _ h }
 
-pub returns-then-n-eq0 : goal.returns-then-n-eq0
-unfolding close_gives close_leaves gives_where leaves_where
-returns-then-n-eq0 c = record { gives = eq_yes _ _ _ (let zero : close_refusal c.args.w (length c.args.buf.now) ≡ 0 = sym c.close_refusal-n.ensures ∙ c.if-n-eq0.true in zero) (ap (λ (u : ℕ). WriteAnswer.Done (record { used = u; closed = true })) c.copy_in-used.ensures.next); leaves = eq_yes _ _ _ (let zero : close_refusal c.args.w (length c.args.buf.now) ≡ 0 = sym c.close_refusal-n.ensures ∙ c.if-n-eq0.true in zero) c.copy_in-used.ensures.put }
+pub copy_in-used-requires : goal.copy_in-used-requires
+copy_in-used-requires c = omega (arith, (close_facts _ _ (sym c.judge_close.ensures ∙ passed-fine _ _ (sym c.passed.ensures ∙ c.in_ok-passed.was))).buffer)
 
 pub returns : goal.returns
-unfolding close_gives close_leaves gives_where leaves_where
-returns c = record { gives = eq_no _ _ _ (λ q. c.if-n-eq0.false (c.close_refusal-n.ensures ∙ q)) (ap (λ (n : ℕ). WriteAnswer.Refused (refusal n) c.args.w) c.close_refusal-n.ensures); leaves = eq_no _ _ _ (λ q. c.if-n-eq0.false (c.close_refusal-n.ensures ∙ q)) refl }
+unfolding close_gives close_leaves
+returns c =
+    let e = sym c.judge_close.ensures ∙ passed-fine _ _ (sym c.passed.ensures ∙ c.in_ok-passed.was) in
+    record {
+      gives = gives-fine _ _ e (ap (λ (u : ℕ). record { used = u; closed = true }) c.copy_in-used.ensures.next);
+      leaves = leaves-fine _ _ _ e c.copy_in-used.ensures.put;
+    }

@@ -1,23 +1,31 @@
--- `open_book` meets its contract: the refusal's number decides both the answer and the buffer.
-use Rattle.std.proofs.Common.{List, ap, arith, false, length, refl, sym, ℕ, ◌∙◌, ◌≡◌}
-use Rattle.prelude.proofs.Laws.Choice.{eq_yes, eq_no}
-use Rattle.prelude.specs.Refusals.{refusal}
+-- `open_book` meets its contract: the judgement decides both the answer and the buffer.
+use Rattle.std.proofs.Common.{List, ap, arith, false, length, sym, ℕ, ◌∙◌, ◌≡◌}
 use Rattle.prelude.specs.Splice.{splice}
-use Rattle.writer.specs.Writing.{gives_where, leaves_where, open_refusal, open_gives, open_leaves}
-use Rattle.writer.proofs.Laws.Calls.{length_open, open_facts, settings_lead}
-use Rattle.writer.specs.declared.types.WriteAnswer.{WriteAnswer}
+use Rattle.prelude.proofs.Laws.Results.{err_passed}
+use Rattle.writer.specs.Writing.{passed, open_gives, open_leaves}
+use Rattle.writer.proofs.Laws.Calls.{length_open, open_facts, settings_lead, gives-fine, leaves-fine, passed-fine, passed-gives, passed-leaves}
 use Rattle.writer.proofs.calls.open_book.Goals as goal
 
-pub open_bytes-bytes-requires : goal.open_bytes-bytes-requires
-open_bytes-bytes-requires c = omega (arith, settings_lead _ (open_facts _ _ (let zero : open_refusal c.args.s (length c.args.buf.now) ≡ 0 = sym c.open_refusal-n.ensures ∙ c.if-n-eq0.true in zero)).0)
+pub returns-in_err-passed : goal.returns-in_err-passed
+unfolding open_gives open_leaves
+returns-in_err-passed c =
+    let h = sym (ap (λ j. passed j _) c.judge_open.ensures) ∙ (sym c.passed.ensures ∙ c.in_err-passed.was) in
+    record { gives = passed-gives _ _ _ h (err_passed c.from_residual.ensures.1); leaves = passed-leaves _ _ _ _ _ h }
+
+pub open_bytes-requires : goal.open_bytes-requires
+open_bytes-requires c = omega (arith, settings_lead _ (open_facts _ _ (sym c.judge_open.ensures ∙ passed-fine _ _ (sym c.passed.ensures ∙ c.in_ok-passed.was))).0)
 
 pub copy_in-used-requires : goal.copy_in-used-requires
-copy_in-used-requires c = omega (arith, (let long : length c.open_bytes-bytes.result ≡ 12 = ap length c.open_bytes-bytes.ensures ∙ length_open _ in long), (open_facts _ _ (let zero : open_refusal c.args.s (length c.args.buf.now) ≡ 0 = sym c.open_refusal-n.ensures ∙ c.if-n-eq0.true in zero)).1)
-
-pub returns-then-n-eq0 : goal.returns-then-n-eq0
-unfolding open_gives open_leaves gives_where leaves_where
-returns-then-n-eq0 c = record { gives = eq_yes _ _ _ (let zero : open_refusal c.args.s (length c.args.buf.now) ≡ 0 = sym c.open_refusal-n.ensures ∙ c.if-n-eq0.true in zero) (ap (λ (u : ℕ). WriteAnswer.Done (record { used = u; closed = false })) (omega (arith, c.copy_in-used.ensures.next, (let long : length c.open_bytes-bytes.result ≡ 12 = ap length c.open_bytes-bytes.ensures ∙ length_open _ in long)))); leaves = eq_yes _ _ _ (let zero : open_refusal c.args.s (length c.args.buf.now) ≡ 0 = sym c.open_refusal-n.ensures ∙ c.if-n-eq0.true in zero) (c.copy_in-used.ensures.put ∙ ap (λ (x : List ℕ). splice c.args.buf.now 0 x) c.open_bytes-bytes.ensures) }
+copy_in-used-requires c =
+    let long : length c.open_bytes.result ≡ 12 = ap length c.open_bytes.ensures ∙ length_open _ in
+    omega (arith, (open_facts _ _ (sym c.judge_open.ensures ∙ passed-fine _ _ (sym c.passed.ensures ∙ c.in_ok-passed.was))).1)
 
 pub returns : goal.returns
-unfolding open_gives open_leaves gives_where leaves_where
-returns c = record { gives = eq_no _ _ _ (λ q. c.if-n-eq0.false (c.open_refusal-n.ensures ∙ q)) (ap (λ (n : ℕ). WriteAnswer.Refused (refusal n) (record { used = 0; closed = false })) c.open_refusal-n.ensures); leaves = eq_no _ _ _ (λ q. c.if-n-eq0.false (c.open_refusal-n.ensures ∙ q)) refl }
+unfolding open_gives open_leaves
+returns c =
+    let e = sym c.judge_open.ensures ∙ passed-fine _ _ (sym c.passed.ensures ∙ c.in_ok-passed.was) in
+    let long : length c.open_bytes.result ≡ 12 = ap length c.open_bytes.ensures ∙ length_open _ in
+    record {
+      gives = gives-fine _ _ e (ap (λ (u : ℕ). record { used = u; closed = false }) (omega arith));
+      leaves = leaves-fine _ _ _ e (c.copy_in-used.ensures.put ∙ ap (λ (x : List ℕ). splice c.args.buf.now 0 x) c.open_bytes.ensures);
+    }

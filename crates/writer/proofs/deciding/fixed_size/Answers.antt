@@ -1,31 +1,22 @@
--- `fixed_size` meets its contract: each arm is its kind's number.
-use Rattle.std.proofs.Common.{ap, sym}
+-- `fixed_size` meets its contract: each arm is its kinds' number.
+use mathlib.Core.Logic.{inl, inr}
 use Rattle.prelude.specs.Choice.{if_eq}
 use Rattle.records.specs.Fields.{fixed_of}
 use Rattle.records.specs.Encoding.{type_of}
-use Rattle.records.specs.declared.types.Record.{Record}
 use Rattle.writer.proofs.deciding.fixed_size.Goals as goal
 
-pub returns-in-Dated : goal.returns-in-Dated
+pub returns-in-Dated-clause-value : goal.returns-in-Dated-clause-value
 unfolding fixed_of type_of if_eq
-returns-in-Dated c = sym (ap (λ (x : Record). fixed_of (type_of x)) c.in-Dated.is)
+returns-in-Dated-clause-value c = rw c.in-Dated.is
 
-pub returns-in-Weekly : goal.returns-in-Weekly
+pub returns-in-Weekly-clause-value : goal.returns-in-Weekly-clause-value
 unfolding fixed_of type_of if_eq
-returns-in-Weekly c = sym (ap (λ (x : Record). fixed_of (type_of x)) c.in-Weekly.is)
+returns-in-Weekly-clause-value c = elim c.in-Weekly.is [ inl p ↦ rw p.1 | inr q ↦ rw q.1 ]
 
-pub returns-in-MonthlyByDate : goal.returns-in-MonthlyByDate
+pub returns-in-MonthlyByPosition-clause-value : goal.returns-in-MonthlyByPosition-clause-value
 unfolding fixed_of type_of if_eq
-returns-in-MonthlyByDate c = sym (ap (λ (x : Record). fixed_of (type_of x)) c.in-MonthlyByDate.is)
+returns-in-MonthlyByPosition-clause-value c = elim c.in-MonthlyByPosition.is [ inl p ↦ rw p.1 | inr q ↦ rw q.1 ]
 
-pub returns-in-MonthlyByPosition : goal.returns-in-MonthlyByPosition
+pub returns-in-ToDo-clause-value : goal.returns-in-ToDo-clause-value
 unfolding fixed_of type_of if_eq
-returns-in-MonthlyByPosition c = sym (ap (λ (x : Record). fixed_of (type_of x)) c.in-MonthlyByPosition.is)
-
-pub returns-in-Yearly : goal.returns-in-Yearly
-unfolding fixed_of type_of if_eq
-returns-in-Yearly c = sym (ap (λ (x : Record). fixed_of (type_of x)) c.in-Yearly.is)
-
-pub returns-in-ToDo : goal.returns-in-ToDo
-unfolding fixed_of type_of if_eq
-returns-in-ToDo c = sym (ap (λ (x : Record). fixed_of (type_of x)) c.in-ToDo.is)
+returns-in-ToDo-clause-value c = rw c.in-ToDo.is

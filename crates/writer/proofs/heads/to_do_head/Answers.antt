@@ -1,12 +1,17 @@
--- `to_do_head` meets its contract: the check-off decides its bit and its three bytes.
-use Rattle.std.proofs.Common.{◌∙◌}
-use Rattle.writer.proofs.Laws.Heads.{to_do_head_not_checked, to_do_head_checked}
+-- `to_do_head` meets its contract: byte by byte, what its callees give.
+use Rattle.std.proofs.Common.{arith}
+use Rattle.prelude.specs.Choice.{if_eq}
+use Rattle.prelude.specs.Bytes.{le16}
+use Rattle.records.specs.Fields.{fixed_of}
+use Rattle.records.specs.Encoding.{date_bytes, fixed_bytes, type_of}
+use Rattle.records.proofs.Laws.Bodies.{state_byte, check_bit}
+use Rattle.writer.specs.Heads.{record_head}
+use Rattle.writer.proofs.Laws.Heads.{flag_byte, checked_bytes}
 use Rattle.writer.proofs.heads.to_do_head.Goals as goal
 
-pub returns-in_default : goal.returns-in_default
-returns-in_default c = c.to_do_bytes.ensures ∙ to_do_head_not_checked _ _ _ c.in_default.is
+pub overflow_add-result : goal.overflow_add-result
+overflow_add-result c = omega (arith, flag_byte c.args.d.carry_forward, state_byte c.args.d.carry_forward, check_bit c.args.d.check_off)
 
 pub returns : goal.returns
-returns c =
-    let e = to_do_head_checked c.args.d c.in-On.on c.args.t c.args.n c.in-On.is in
-    cc
+unfolding record_head type_of fixed_of if_eq fixed_bytes date_bytes le16
+returns c = rw (c.to_le_bytes.ensures, c.date_bytes.ensures, c.to_le_bytes-2.ensures, c.check_off_bytes.ensures.mark, c.check_off_bytes.ensures.date, c.from.ensures, flag_byte c.args.d.carry_forward, checked_bytes, c.text_length-t.ensures, c.note_length-n.ensures)

@@ -1,8 +1,0 @@
--- `short_head` meets its contract: byte by byte, what its callees give.
-use Rattle.prelude.specs.Bytes.{le16, be16}
-use Rattle.records.specs.Encoding.{date_bytes, tail_bytes, from_start}
-use Rattle.writer.proofs.heads.short_head.Goals as goal
-
-pub returns : goal.returns
-unfolding from_start tail_bytes date_bytes le16 be16
-returns c = cc
