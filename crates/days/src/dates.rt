@@ -14,7 +14,7 @@ fn is_leap(year: u16) -> bool
 }
 
 // The days of a month of any year; 0 for a number that is no month.
-// Kept: that 0, as the clause says (`month_length`): no day of it is real, and `day_of` and `is_real` need no other test.
+// Kept: that 0, as the clause says (`month_length`), for any number of a month; `is_real` and the call `month_length` test the month first.
 pub fn month_days(year: u16, month: u16) -> u16
     ensures { result ≡ month_length year month }
 {

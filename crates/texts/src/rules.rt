@@ -19,7 +19,7 @@ pub fn no_zero(s: &[u8]) -> bool
     !s.contains(&0)
 }
 
-// Kept: the bound of a note in three clauses: counts of it fit 16 bits, and each is of another slice.
+// Kept: the bound of a note in three clauses: its zeros are counted in 16 bits, and a type for it would be built for these three alone.
 // Whether a note has at most 11 lines: each zero before its last byte begins one more.
 fn few_lines(s: &[u8]) -> bool
     requires s_nonzero { 0 < length s.now }
