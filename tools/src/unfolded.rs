@@ -3,11 +3,12 @@
 use crate::files::{below, read};
 use std::path::Path;
 
-/// Whether a text unfolds a definition, by a line `unfolding ..` or by `unfold .. in`. Comments do not count.
+/// Whether a text unfolds a definition, by a line `unfolding ..` or by `unfold .. in`, or for a function by its attribute
+/// `#[tactic(auto, unfolding(..))]`, with a path. Comments do not count.
 pub fn unfolds(text: &str, name: &str) -> bool {
     let of_line = |line: &str| {
-        let code = line.split("--").next().unwrap_or("");
-        let mut words = code.split(|letter: char| letter.is_whitespace() || "(),".contains(letter));
+        let code = ["--", "//"].iter().fold(line, |code, sign| code.split(sign).next().unwrap_or(""));
+        let mut words = code.split(|letter: char| letter.is_whitespace() || "(),:".contains(letter));
         words.any(|word| ["unfold", "unfolding"].contains(&word)) && words.any(|word| word == name)
     };
     text.lines().any(of_line)
@@ -20,7 +21,8 @@ pub fn unfolding(top: &Path, name: &str) -> Result<Vec<String>, String> {
     for file in below(&crates)? {
         let inside = file.strip_prefix(&crates).map_err(|error| error.to_string())?;
         let copy = inside.components().nth(1).is_some_and(|part| part.as_os_str() == "out");
-        if !copy && file.extension().is_some_and(|end| end == "antt") && unfolds(&read(&file)?, name) {
+        let source = file.extension().is_some_and(|end| end == "antt" || end == "rt");
+        if !copy && source && unfolds(&read(&file)?, name) {
             files.push(inside.display().to_string());
         }
     }

@@ -31,4 +31,17 @@ fn files_by_hand() {
     assert!(!unfolds("unfolding one -- two\n", "two"));
     assert!(!unfolds("unfolding twofold\n-- unfolding two\n", "two"));
     assert!(!unfolds("two = unfolding one\n", "two"));
+    assert!(unfolds("#[tactic(auto, unfolding(low::specs::A::one, low::specs::A::two))]\n", "two"));
+    assert!(unfolds("#![tactic(auto, unfolding(crate::specs::A::two))]\n", "two"));
+    assert!(!unfolds("#[tactic(auto, unfolding(low::specs::A::twofold))]\n", "two"));
+    assert!(!unfolds("// unfolding(low::specs::A::two)\n", "two"));
+}
+
+/// A rule's day is unfolded by its function's attribute, and by a law.
+#[test]
+fn code_and_proofs_are_looked_at() {
+    assert_eq!(
+        unfolding(&top(), "to_day").expect("files"),
+        ["occurrences/proofs/Laws/Waits.antt", "occurrences/src/waiting.rt"]
+    );
 }

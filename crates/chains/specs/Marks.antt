@@ -1,5 +1,5 @@
--- Heads as marks, a way to know an earlier entry's head: a list with 1 at the head of each entry so far. The code marks in
--- an array of booleans, and `marked_bad` stands as a law.
+-- Heads as marks, the code's way to know an earlier entry's head: an array with 1 at the head of each entry so far. The
+-- code's array is of booleans, and `bit` makes the numbers of them.
 -- Assumes nothing.
 use Rattle.std.specs.Prelude.{ℕ, zero, suc, Bool, true, false, List, length, get_or, set, replicate}
 use Rattle.prelude.specs.Choice.{if_lt, if_eq}

@@ -12,13 +12,13 @@ impl Records<'_> {
         requires { head < length self.now.next.now }
         ensures { result ≡ linked self.now.previous.now self.now.next.now (walk (length self.now.next.now) self.now.next.now head) }
     {
-        let mut here = head;
+        let mut here = usize::from(head);
         for _ in 0..self.next.len() {
-            let after = self.next[usize::from(here)];
-            match self.previous.get(usize::from(after)) {
-                Some(&back) if back == here => here = after,
-                None if after == NO_RECORD => return Ok(()),
-                _ => return Err(Fault::BadChain.at(usize::from(here))),
+            let after = usize::from(self.next[here]);
+            match self.previous.get(after) {
+                Some(&back) if usize::from(back) == here => here = after,
+                None if after == usize::from(NO_RECORD) => return Ok(()),
+                _ => return Err(Fault::BadChain.at(here)),
             }
         }
         Ok(())

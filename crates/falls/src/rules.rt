@@ -1,5 +1,5 @@
 // The rules of the six kinds, each asked of a record and the facts of a day.
-#![tactic(auto, using(crate::proofs::Laws::Tests::choices), unfolding(crate::specs::Falls::dated_falls, crate::specs::Falls::weekly_falls, crate::specs::Falls::by_position_falls, crate::specs::Falls::on_missing_day, crate::specs::Falls::on_day, crate::specs::Falls::by_date_falls, crate::specs::Falls::yearly_falls, crate::specs::Agrees::agrees))]
+#![tactic(auto, using(crate::proofs::Laws::Tests::choices), unfolding(crate::specs::Falls::dated_falls, crate::specs::Falls::in_span, crate::specs::Falls::weekly_falls, crate::specs::Falls::by_position_falls, crate::specs::Falls::on_missing_day, crate::specs::Falls::on_day, crate::specs::Falls::by_date_falls, crate::specs::Falls::yearly_falls, crate::specs::Agrees::agrees))]
 
 ghost use Rattle.std.specs.Prelude.{◌≡◌, ◌+◌, ◌-◌, ◌/◌};
 ghost use Rattle.records.specs.Fields.{record_of};
@@ -7,6 +7,7 @@ ghost use Rattle.falls.specs.Agrees.{agrees as agrees_of};
 ghost use Rattle.falls.specs.Falls.{dated_falls, in_span, weekly_falls, by_position_falls, on_missing_day, on_day, by_date_falls, yearly_falls, falls};
 
 use crate::types::ShortMonth;
+use days::dates::before;
 use days::types::DayFacts;
 use prelude::slices::byte;
 use records::fields::{dated_of, monthly_by_date_of, monthly_by_position_of, weekly_of, yearly_of};
@@ -21,7 +22,7 @@ fn dated_falls(f: DayFacts, d: Dated) -> bool
 fn in_span(f: DayFacts, p: Repeat) -> bool
     ensures { result ≡ in_span f p }
 {
-    p.first <= f.date && f.date <= p.last
+    !before(f.date, p.first) && !before(p.last, f.date)
 }
 
 fn weekly_falls(f: DayFacts, w: Weekly) -> bool

@@ -9,7 +9,6 @@ use days::types::CalendarDay;
 use prelude::refusals::Refusal;
 
 // The number of records and the day's facts, or the refusal.
-#[tactic(auto, unfolding(crate::specs::Answers::validated, crate::specs::Answers::validated_day, days::specs::Answers::facts_answer, prelude::specs::Choice::if_lt), using(std::proofs::lemmas::Bool::Decides::nat_tests))]
 pub fn validate(file: &[u8], n: CalendarDay) -> Result<Ready, Refusal>
     ensures { result ≡ validated file.now n }
 {

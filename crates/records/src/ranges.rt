@@ -1,11 +1,11 @@
 // When a record's fields are in range: one judge a kind, for reading and for writing.
 ghost use Rattle.std.specs.Prelude.{◌≡◌};
-ghost use Rattle.records.specs.Ranges.{times_ok, dated_ok, repeat_ok, weekly_ok, monthly_by_date_ok, monthly_by_position_ok, yearly_ok, to_do_ok, record_ok, check_off_clean};
+ghost use Rattle.records.specs.Ranges.{times_ok, dated_ok, repeat_ok, weekly_ok, monthly_by_date_ok, monthly_by_position_ok, yearly_ok, check_off_ok, to_do_ok, record_ok, check_off_clean};
 
 use crate::fields::bit_1;
 use crate::types::{Dated, MonthlyByDate, MonthlyByPosition, Record, Repeat, ToDo, Weekly, Yearly};
-use days::dates::{is_real, month_days};
-use days::types::LAST_MINUTE;
+use days::dates::{before, is_real, month_days};
+use days::types::{Date, LAST_MINUTE};
 use prelude::slices::byte;
 
 pub const MOST_LEAD: u16 = 30;
@@ -22,10 +22,14 @@ pub fn dated_ok(d: Dated) -> bool
     is_real(d.date) && times_ok(d.start.0, d.end.0, d.lead)
 }
 
+// Kept: `before` and no `<=`, here and in falls: crates above know the order of dates by the contract of days alone.
 fn repeat_ok(r: Repeat) -> bool
     ensures { result ≡ repeat_ok r }
 {
-    is_real(r.first) && is_real(r.last) && r.first <= r.last && times_ok(r.start.0, r.end.0, r.lead)
+    is_real(r.first)
+        && is_real(r.last)
+        && !before(r.last, r.first)
+        && times_ok(r.start.0, r.end.0, r.lead)
 }
 
 pub fn weekly_ok(w: Weekly) -> bool
@@ -52,10 +56,21 @@ pub fn yearly_ok(y: Yearly) -> bool
     (1..=month_days(2000, y.month)).contains(&y.day) && repeat_ok(y.repeat)
 }
 
+// A date is taken out of a check-off; otherwise it is not checked off, which is always fine.
+#[tactic(auto, unfolding(crate::specs::Ranges::check_off_ok))]
+fn check_off_ok(c: Option<Date>) -> bool
+    ensures { result ≡ check_off_ok c }
+{
+    let Some(date) = c else {
+        return true;
+    };
+    is_real(date)
+}
+
 pub fn to_do_ok(t: ToDo) -> bool
     ensures { result ≡ to_do_ok t }
 {
-    (1..=9).contains(&t.priority) && is_real(t.start) && t.check_off.is_none_or(is_real)
+    (1..=9).contains(&t.priority) && is_real(t.start) && check_off_ok(t.check_off)
 }
 
 pub fn record_ok(r: Record) -> bool

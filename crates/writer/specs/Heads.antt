@@ -25,10 +25,6 @@ short_head kind a r t n = kind ∷ (le16 (16 + t + n) ++ (bit r.alarm ∷ (a ∷
 abbrev pub long_head : ℕ → ℕ → ℕ → Repeat → ℕ → ℕ → List ℕ
 long_head kind a b r t n = kind ∷ (le16 (17 + t + n) ++ (bit r.alarm ∷ (a ∷ (b ∷ from_start r t n))))
 
--- types 2 to 5: the numbers before the start minute, then from it on
-abbrev pub repeat_head : ℕ → List ℕ → Repeat → ℕ → ℕ → List ℕ
-repeat_head kind numbers r t n = kind ∷ (le16 (15 + length numbers + t + n) ++ (bit r.alarm ∷ (numbers ++ from_start r t n)))
-
 -- what fits into bytes, kind by kind
 pub record DatedFit (d : Dated) : Type 0 where
   pub date : ThreeBytes d.date

@@ -35,7 +35,10 @@ fn judge_room(size: usize, used: usize, more: usize) -> Result<(), Fault>
     requires { more ≤ 1000 }
     ensures { result ≡ room_refusal size (used + more) }
 {
-    let end = used.saturating_add(more + 3);
+    if MOST_BOOK_BYTES < used {
+        return Err(Fault::NoRoom);
+    }
+    let end = used + more + 3;
     if size.min(MOST_BOOK_BYTES) < end {
         return Err(Fault::NoRoom);
     }

@@ -1,8 +1,7 @@
-// The head and the fixed bytes of each kind of record.
-ghost use Rattle.std.specs.Prelude.{◌≡◌, length};
-ghost use Rattle.records.specs.Encoding.{from_start};
+// The head and the fixed bytes of each kind of record, as one array.
+ghost use Rattle.std.specs.Prelude.{◌≡◌, ◌≤◌, length};
 ghost use Rattle.records.specs.declared.types.Record.{Record};
-ghost use Rattle.writer.specs.Heads.{record_head, DatedFit, RepeatFit, ToDoFit, Lengths};
+ghost use Rattle.writer.specs.Heads.{record_head, short_head, long_head, to_do_head, DatedFit, RepeatFit, ToDoFit, Lengths};
 
 use crate::bytes::{check_off_bytes, date_bytes};
 use records::types::{Dated, Repeat, ToDo};
@@ -59,19 +58,25 @@ pub fn dated_head(d: Dated, texts: Texts<'_>) -> [u8; 15]
     ]
 }
 
-// What types 2 to 5 share, from the start minute on.
-pub fn from_start(r: Repeat, texts: Texts<'_>) -> [u8; 14]
+// Types 2 and 3: one number before the start minute.
+pub fn short_head(kind: u8, a: u8, r: Repeat, texts: Texts<'_>) -> [u8; 19]
     requires { RepeatFit r }
-    ensures { result ≡ from_start r (length texts.entry.text.now) (length texts.entry.note.now) }
+    ensures { result ≡ short_head kind a r (length texts.entry.text.now) (length texts.entry.note.now) }
 {
     let t = texts.text_length();
     let n = texts.note_length();
+    let [low, high] = (16 + t + n).to_le_bytes();
     let [start_high, start_low] = r.start.0.to_be_bytes();
     let [first_year, first_month, first_day] = date_bytes(r.first);
     let [end_low, end_high] = r.end.0.to_le_bytes();
     let [last_year, last_month, last_day] = date_bytes(r.last);
     let [note_low, note_high] = n.to_le_bytes();
     [
+        kind,
+        low,
+        high,
+        u8::from(r.alarm),
+        a,
         start_high,
         start_low,
         first_year,
@@ -89,15 +94,52 @@ pub fn from_start(r: Repeat, texts: Texts<'_>) -> [u8; 14]
     ]
 }
 
-pub fn to_do_head(d: ToDo, texts: Texts<'_>) -> [u8; 14]
-    requires { ToDoFit d }
-    ensures { result ≡ record_head (Record.ToDo d) (length texts.entry.text.now) (length texts.entry.note.now) }
+// Types 4 and 5: two numbers before it.
+pub fn long_head(kind: u8, a: u8, b: u8, r: Repeat, texts: Texts<'_>) -> [u8; 20]
+    requires { RepeatFit r }
+    ensures { result ≡ long_head kind a b r (length texts.entry.text.now) (length texts.entry.note.now) }
+{
+    let t = texts.text_length();
+    let n = texts.note_length();
+    let [low, high] = (17 + t + n).to_le_bytes();
+    let [start_high, start_low] = r.start.0.to_be_bytes();
+    let [first_year, first_month, first_day] = date_bytes(r.first);
+    let [end_low, end_high] = r.end.0.to_le_bytes();
+    let [last_year, last_month, last_day] = date_bytes(r.last);
+    let [note_low, note_high] = n.to_le_bytes();
+    [
+        kind,
+        low,
+        high,
+        u8::from(r.alarm),
+        a,
+        b,
+        start_high,
+        start_low,
+        first_year,
+        first_month,
+        first_day,
+        end_low,
+        end_high,
+        last_year,
+        last_month,
+        last_day,
+        r.lead as u8,
+        t as u8,
+        note_low,
+        note_high,
+    ]
+}
+
+fn to_do_bytes(d: ToDo, mark: u8, y: u8, m: u8, day: u8, texts: Texts<'_>) -> [u8; 14]
+    requires to_do_fit { ToDoFit d }
+    requires mark_bound { mark ≤ 2 }
+    ensures { result ≡ to_do_head d mark y m day (length texts.entry.text.now) (length texts.entry.note.now) }
 {
     let t = texts.text_length();
     let n = texts.note_length();
     let [low, high] = (11 + t + n).to_le_bytes();
-    let [year, month, day] = date_bytes(d.start);
-    let (mark, [done_year, done_month, done_day]) = check_off_bytes(d.check_off);
+    let [start_year, start_month, start_day] = date_bytes(d.start);
     let [note_low, note_high] = n.to_le_bytes();
     [
         6,
@@ -105,14 +147,22 @@ pub fn to_do_head(d: ToDo, texts: Texts<'_>) -> [u8; 14]
         high,
         u8::from(d.carry_forward) + mark,
         d.priority as u8,
-        year,
-        month,
+        start_year,
+        start_month,
+        start_day,
+        y,
+        m,
         day,
-        done_year,
-        done_month,
-        done_day,
         t as u8,
         note_low,
         note_high,
     ]
+}
+
+pub fn to_do_head(d: ToDo, texts: Texts<'_>) -> [u8; 14]
+    requires { ToDoFit d }
+    ensures { result ≡ record_head (Record.ToDo d) (length texts.entry.text.now) (length texts.entry.note.now) }
+{
+    let (mark, [year, month, day]) = check_off_bytes(d.check_off);
+    to_do_bytes(d, mark, year, month, day, texts)
 }

@@ -1,9 +1,11 @@
 -- Marks stand for the earlier heads: a head judged by them is judged as defined, and fine heads are records.
 -- Assumes nothing.
-use Rattle.std.specs.Prelude.{Ok, ℕ, zero, suc, ◌+◌, ◌<◌, ◌≤◌, ◌≡◌, Bool, true, false, List, length, get_or, set}
+use Rattle.std.specs.Prelude.{Ok, ℕ, zero, suc, ◌+◌, ◌<◌, ◌≤◌, ◌≡◌, Bool, true, false, List, ◌∷◌, length, get_or, set, map, replicate}
 use Rattle.std.proofs.Common.{sym, ap, ◌∙◌, refl, arith, add-one, length-set, get_or-set_same, get_or-set_other}
-use Rattle.std.proofs.lemmas.List.{length-replicate, get_or-replicate}
-use Rattle.prelude.specs.Choice.{if_lt, if_eq}
+use Rattle.std.proofs.lemmas.List.{length-replicate, get_or-replicate, map-set}
+use Rattle.std.proofs.Math.ListN.{get_or-map}
+use Rattle.prelude.specs.Choice.{if_lt, if_eq, if_b}
+use Rattle.prelude.specs.Bytes.{bit}
 use Rattle.prelude.proofs.Laws.Choice.{is_eq, is_ne, is_lt, is_ge, lt_elim, eq_elim}
 use Rattle.prelude.specs.Refusals.{bad_chain}
 use Rattle.prelude.specs.Verdicts.{in_turn}
@@ -55,15 +57,24 @@ pub heads_in : (t previous : List ℕ) (k : ℕ) {v : Verdict} → v ≡ in_turn
 heads_in t previous k e f i l =
     (head_bad-false-facts t previous i (unless_bad_fine _ bad_chain i (in-turn-fine-each (head_verdict t previous) k 0 (sym e ∙ f) i (omega arith) (omega arith)))).0
 
--- a mark for each head met: one more, and a head judged by its mark
-pub mark-met : (t : List ℕ) (i h : ℕ) (met : List Bool) {x : ℕ} → x ≡ head_at t i → h < length met → get_or met h false ≡ head_before t h i → get_or (set met x true) h false ≡ head_before t h (i + 1)
-unfolding head_before
-mark-met t i h met e l b =
-    rw (add-one i, e)
-    (eq_elim (λ z. get_or (set met (head_at t i) true) h false ≡ z) (head_at t i) h true (head_before t h i)
-    (λ q. rw q (get_or-set_same met h true false l))
-    (λ n. rw (get_or-set_other met (head_at t i) h true false (λ q. n (sym q))) b))
+-- the code's marks are booleans, each a number as `bit` has it: none set, one more set, and one read
+none-set : (n : ℕ) → map bit (replicate n false) ≡ no_marks n
+unfolding bit if_b
+none-set zero = refl
+none-set (suc n) = ap (λ (xs : List ℕ). 0 ∷ xs) (none-set n)
 
-pub head-judged : (t previous : List ℕ) (i : ℕ) {h : ℕ} {v : Bool} → h ≡ head_at t i → v ≡ if_lt h (length previous) (if_eq (field_of previous h) no_record (head_before t h i) true) true → v ≡ head_bad t previous i
-unfolding head_bad
-head-judged t previous i e q = q ∙ rw e refl
+pub none-met : (n : ℕ) (t : List ℕ) → map bit (replicate n false) ≡ marks n t 0
+none-met n t = marks-none n t (none-set n)
+
+pub mark-met : (n : ℕ) (t : List ℕ) (i : ℕ) (met : List Bool) {h : ℕ} → map bit met ≡ marks n t i → h ≡ head_at t i → map bit (set met h true) ≡ marks n t (i + 1)
+unfolding bit if_b
+mark-met n t i met e d = map-set bit met _ true ∙ marks_next n t i e d refl
+
+bit-read : (b : Bool) → if_eq (bit b) 0 false true ≡ b
+unfolding bit if_b if_eq
+bit-read true = refl
+bit-read false = refl
+
+pub mark-read : (met : List Bool) (h : ℕ) {v : Bool} → get_or met h false ≡ v → v ≡ if_eq (get_or (map bit met) h 0) 0 false true
+unfolding bit if_b
+mark-read met h e = sym (ap (λ (x : ℕ). if_eq x 0 false true) (get_or-map bit met h false) ∙ bit-read (get_or met h false) ∙ e)

@@ -1,7 +1,7 @@
 -- Laws of a record's head: it is the encoding's, kind by kind, and what fits into bytes follows from the ranges.
 -- Assumes nothing.
-use Rattle.std.specs.Prelude.{Option, Some, None, ℕ, ◌+◌, ◌-◌, ◌<◌, ◌≤◌, ◌≡◌, refl, Bool, true, false, List, [], ◌∷◌, ◌++◌, length, get_or}
-use Rattle.std.proofs.Common.{◌∙◌, ap, append_assoc, arith, length-append}
+use Rattle.std.specs.Prelude.{Option, Some, None, ℕ, ◌+◌, ◌-◌, ◌<◌, ◌≤◌, ◌≡◌, refl, Bool, true, false, List, ◌∷◌, ◌++◌, length, get_or}
+use Rattle.std.proofs.Common.{◌∙◌, ap, arith}
 use Rattle.std.specs.Int.{from_bool}
 use Rattle.prelude.specs.Bytes.{bit, le16}
 use Rattle.prelude.specs.Choice.{if_b, if_eq}
@@ -9,7 +9,7 @@ use Rattle.days.specs.Dates.{month_length}
 use Rattle.days.proofs.Laws.Dates.{valid_facts, Month, length_bounds}
 use Rattle.days.specs.declared.types.Date.{Date}
 use Rattle.records.specs.Fields.{fixed_of}
-use Rattle.records.specs.Encoding.{date_bytes, from_start, check_off_bit, check_off_bytes, fixed_bytes, type_of, body_bytes, encode}
+use Rattle.records.specs.Encoding.{date_bytes, check_off_bit, check_off_bytes, fixed_bytes, type_of, body_bytes, encode}
 use Rattle.records.specs.Ranges.{check_off_ok}
 use Rattle.records.proofs.Laws.Ranges.{three_bytes, Within, DatedFacts, RepeatFacts, ToDoFacts}
 use Rattle.records.proofs.Laws.Bodies.{length_body}
@@ -21,7 +21,7 @@ use Rattle.records.specs.declared.types.MonthlyByDate.{MonthlyByDate}
 use Rattle.records.specs.declared.types.MonthlyByPosition.{MonthlyByPosition}
 use Rattle.records.specs.declared.types.Yearly.{Yearly}
 use Rattle.records.specs.declared.types.ToDo.{ToDo}
-use Rattle.writer.specs.Heads.{record_head, repeat_head, short_head, long_head, DatedFit, RepeatFit, CheckFit, ToDoFit, to_do_head, Put}
+use Rattle.writer.specs.Heads.{record_head, short_head, long_head, DatedFit, RepeatFit, CheckFit, ToDoFit, to_do_head, Put}
 
 -- a mark as a byte
 pub flag_byte : (b : Bool) → from_bool b ≡ bit b
@@ -68,16 +68,6 @@ to_do_head_not_checked d t n e = rw e
 pub to_do_head_checked : (d : ToDo) (on : Date) (t n : ℕ) → d.check_off ≡ Some on → to_do_head d 2 (on.year - 1900) on.month on.day t n ≡ record_head (Record.ToDo d) t n
 unfolding record_head type_of fixed_of if_eq fixed_bytes check_off_bit check_off_bytes date_bytes
 to_do_head_checked d on t n e = rw e
-
--- a record of types 2 to 5 as it is put: four bytes, the numbers, and what the types share
-module _ (kind : ℕ) (numbers : List ℕ) (r : Repeat) (t n : ℕ) (rest : List ℕ) where
-  pub repeat-pieces : repeat_head kind numbers r t n ++ rest ≡ (kind ∷ (le16 (15 + length numbers + t + n) ++ (bit r.alarm ∷ [])) ++ numbers) ++ (from_start r t n ++ rest)
-  unfolding le16
-  repeat-pieces = rw (append_assoc numbers (from_start r t n) rest)
-
-  pub repeat-length : length (repeat_head kind numbers r t n ++ rest) ≡ 4 + length numbers + length (from_start r t n ++ rest)
-  unfolding le16
-  repeat-length = rw (append_assoc numbers (from_start r t n) rest) (omega (arith, length-append numbers (from_start r t n ++ rest)))
 
 -- the heads of types 2 to 5 are theirs
 pub weekly_head : (w : Weekly) (t n : ℕ) → short_head 2 w.weekday w.repeat t n ≡ record_head (Record.Weekly w) t n

@@ -20,11 +20,3 @@ returns-in_default c = grind (arith, nat_tests)
 pub returns-in_default-2 : goal.returns-in_default-2
 unfolding month_length if_lt if_eq if_b
 returns-in_default-2 c = grind (arith, nat_tests)
-
-pub returns-in-1 : goal.returns-in-1
-unfolding month_length if_lt if_eq if_b
-returns-in-1 c = grind (arith, nat_tests)
-
-pub returns-in-1-2 : goal.returns-in-1-2
-unfolding month_length if_lt if_eq if_b
-returns-in-1-2 c = grind (arith, nat_tests)

@@ -9,4 +9,6 @@ use Rattle.writer.proofs.heads.dated_head.Goals as goal
 
 pub returns : goal.returns
 unfolding record_head type_of fixed_of if_eq fixed_bytes date_bytes le16 be16
-returns c = rw (c.to_le_bytes.ensures, c.date_bytes.ensures, c.to_be_bytes.ensures, c.to_le_bytes-2.ensures, c.to_le_bytes-3.ensures, c.from.ensures, flag_byte c.args.d.alarm, c.text_length-t.ensures, c.note_length-n.ensures)
+returns c =
+    let alarm = flag_byte c.args.d.alarm in
+    rw (c.to_le_bytes.ensures, c.date_bytes.ensures, c.to_be_bytes.ensures, c.to_le_bytes-2.ensures, c.to_le_bytes-3.ensures) cc

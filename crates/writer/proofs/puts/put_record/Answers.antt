@@ -31,22 +31,26 @@ returns-in-ToDo c = head_put _ _ _ _ _ _ _ _ c.in-ToDo.is c.to_do_head.ensures c
 pub overflow_cast-w : goal.overflow_cast-w
 overflow_cast-w c = omega (arith, (of c.in-Weekly.is c.requires.r_value).0)
 
-pub put_repeat-requires : goal.put_repeat-requires
-put_repeat-requires c =
-    record { repeat_fit = repeat_fit (of c.in-Weekly.is c.requires.r_value).1; few = omega arith; inside = head_room _ _ _ _ _ _ c.in-Weekly.is (weekly_head _ _ _) c.requires.inside }
+pub short_head-requires : goal.short_head-requires
+short_head-requires c = repeat_fit (of c.in-Weekly.is c.requires.r_value).1
+
+pub put_with_texts-requires-in-Weekly : goal.put_with_texts-requires-in-Weekly
+put_with_texts-requires-in-Weekly c = head_room _ _ _ _ _ _ c.in-Weekly.is (c.short_head.ensures ∙ weekly_head _ _ _) c.requires.inside
 
 pub returns-in-Weekly : goal.returns-in-Weekly
-returns-in-Weekly c = head_put _ _ _ _ _ _ _ _ c.in-Weekly.is (weekly_head _ _ _) c.put_repeat.ensures
+returns-in-Weekly c = head_put _ _ _ _ _ _ _ _ c.in-Weekly.is (c.short_head.ensures ∙ weekly_head _ _ _) c.put_with_texts-in-Weekly.ensures
 
 pub overflow_cast-m : goal.overflow_cast-m
 overflow_cast-m c = omega (arith, (of c.in-MonthlyByDate.is c.requires.r_value).0)
 
-pub put_repeat-requires-in-MonthlyByDate : goal.put_repeat-requires-in-MonthlyByDate
-put_repeat-requires-in-MonthlyByDate c =
-    record { repeat_fit = repeat_fit (of c.in-MonthlyByDate.is c.requires.r_value).1; few = omega arith; inside = head_room _ _ _ _ _ _ c.in-MonthlyByDate.is (by_date_head _ _ _) c.requires.inside }
+pub short_head-requires-in-MonthlyByDate : goal.short_head-requires-in-MonthlyByDate
+short_head-requires-in-MonthlyByDate c = repeat_fit (of c.in-MonthlyByDate.is c.requires.r_value).1
+
+pub put_with_texts-requires-in-MonthlyByDate : goal.put_with_texts-requires-in-MonthlyByDate
+put_with_texts-requires-in-MonthlyByDate c = head_room _ _ _ _ _ _ c.in-MonthlyByDate.is (c.short_head-in-MonthlyByDate.ensures ∙ by_date_head _ _ _) c.requires.inside
 
 pub returns-in-MonthlyByDate : goal.returns-in-MonthlyByDate
-returns-in-MonthlyByDate c = head_put _ _ _ _ _ _ _ _ c.in-MonthlyByDate.is (by_date_head _ _ _) c.put_repeat-in-MonthlyByDate.ensures
+returns-in-MonthlyByDate c = head_put _ _ _ _ _ _ _ _ c.in-MonthlyByDate.is (c.short_head-in-MonthlyByDate.ensures ∙ by_date_head _ _ _) c.put_with_texts-in-MonthlyByDate.ensures
 
 pub overflow_cast-m-in-MonthlyByPosition : goal.overflow_cast-m-in-MonthlyByPosition
 overflow_cast-m-in-MonthlyByPosition c = omega (arith, (of c.in-MonthlyByPosition.is c.requires.r_value).0)
@@ -54,12 +58,14 @@ overflow_cast-m-in-MonthlyByPosition c = omega (arith, (of c.in-MonthlyByPositio
 pub overflow_cast-m-in-MonthlyByPosition-2 : goal.overflow_cast-m-in-MonthlyByPosition-2
 overflow_cast-m-in-MonthlyByPosition-2 c = omega (arith, (of c.in-MonthlyByPosition.is c.requires.r_value).1)
 
-pub put_repeat-requires-in-MonthlyByPosition : goal.put_repeat-requires-in-MonthlyByPosition
-put_repeat-requires-in-MonthlyByPosition c =
-    record { repeat_fit = repeat_fit (of c.in-MonthlyByPosition.is c.requires.r_value).2; few = omega arith; inside = head_room _ _ _ _ _ _ c.in-MonthlyByPosition.is (by_position_head _ _ _) c.requires.inside }
+pub long_head-requires : goal.long_head-requires
+long_head-requires c = repeat_fit (of c.in-MonthlyByPosition.is c.requires.r_value).2
+
+pub put_with_texts-requires-in-MonthlyByPosition : goal.put_with_texts-requires-in-MonthlyByPosition
+put_with_texts-requires-in-MonthlyByPosition c = head_room _ _ _ _ _ _ c.in-MonthlyByPosition.is (c.long_head.ensures ∙ by_position_head _ _ _) c.requires.inside
 
 pub returns-in-MonthlyByPosition : goal.returns-in-MonthlyByPosition
-returns-in-MonthlyByPosition c = head_put _ _ _ _ _ _ _ _ c.in-MonthlyByPosition.is (by_position_head _ _ _) c.put_repeat-in-MonthlyByPosition.ensures
+returns-in-MonthlyByPosition c = head_put _ _ _ _ _ _ _ _ c.in-MonthlyByPosition.is (c.long_head.ensures ∙ by_position_head _ _ _) c.put_with_texts-in-MonthlyByPosition.ensures
 
 pub overflow_cast-y : goal.overflow_cast-y
 overflow_cast-y c = omega (arith, (of c.in-Yearly.is c.requires.r_value).0)
@@ -70,9 +76,11 @@ overflow_cast-y-in-Yearly c =
     let day : c.in-Yearly.y.day < 256 = day_fit _ _ f.0 f.1 in
     omega arith
 
-pub put_repeat-requires-in-Yearly : goal.put_repeat-requires-in-Yearly
-put_repeat-requires-in-Yearly c =
-    record { repeat_fit = repeat_fit (of c.in-Yearly.is c.requires.r_value).2; few = omega arith; inside = head_room _ _ _ _ _ _ c.in-Yearly.is (yearly_head _ _ _) c.requires.inside }
+pub long_head-requires-in-Yearly : goal.long_head-requires-in-Yearly
+long_head-requires-in-Yearly c = repeat_fit (of c.in-Yearly.is c.requires.r_value).2
+
+pub put_with_texts-requires-in-Yearly : goal.put_with_texts-requires-in-Yearly
+put_with_texts-requires-in-Yearly c = head_room _ _ _ _ _ _ c.in-Yearly.is (c.long_head-in-Yearly.ensures ∙ yearly_head _ _ _) c.requires.inside
 
 pub returns-in-Yearly : goal.returns-in-Yearly
-returns-in-Yearly c = head_put _ _ _ _ _ _ _ _ c.in-Yearly.is (yearly_head _ _ _) c.put_repeat-in-Yearly.ensures
+returns-in-Yearly c = head_put _ _ _ _ _ _ _ _ c.in-Yearly.is (c.long_head-in-Yearly.ensures ∙ yearly_head _ _ _) c.put_with_texts-in-Yearly.ensures
