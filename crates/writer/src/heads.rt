@@ -95,6 +95,7 @@ pub fn short_head(kind: u8, a: u8, r: Repeat, texts: Texts<'_>) -> [u8; 19]
 }
 
 // Types 4 and 5: two numbers before it.
+// Kept: beside `short_head`, an array of another length; in pieces around the numbers each record took two copies more.
 pub fn long_head(kind: u8, a: u8, b: u8, r: Repeat, texts: Texts<'_>) -> [u8; 20]
     requires { RepeatFit r }
     ensures { result ≡ long_head kind a b r (length texts.entry.text.now) (length texts.entry.note.now) }
